@@ -1,0 +1,154 @@
+// What code and definitions share of document 01: the table of marks, the limits, a slot, a call, and the answers.
+ghost use mathlib.Core.Path.{_≡_};
+ghost use Prim.Native.Nat.{_<_};
+ghost use Rattle.meaning.specs.Marks.{rowAt, findMark};
+
+// A record's mark, the count of its fixed fields in bytes, and the count of slots that it binds.
+pub struct MarkRow {
+    pub mark: u16,
+    pub fields: u8,
+    pub binds: u8,
+}
+
+const MARKS: [MarkRow; 15] = [
+    MarkRow { mark: 0x434E, fields: 1, binds: 0 },
+    MarkRow { mark: 0x464E, fields: 1, binds: 0 },
+    MarkRow { mark: 0x4244, fields: 0, binds: 0 },
+    MarkRow { mark: 0x4E44, fields: 0, binds: 0 },
+    MarkRow { mark: 0x4756, fields: 1, binds: 0 },
+    MarkRow { mark: 0x4154, fields: 1, binds: 1 },
+    MarkRow { mark: 0x4D4B, fields: 2, binds: 1 },
+    MarkRow { mark: 0x434C, fields: 1, binds: 1 },
+    MarkRow { mark: 0x544C, fields: 1, binds: 0 },
+    MarkRow { mark: 0x4F50, fields: 2, binds: 0 },
+    MarkRow { mark: 0x4C4B, fields: 2, binds: 0 },
+    MarkRow { mark: 0x4252, fields: 1, binds: 0 },
+    MarkRow { mark: 0x4E55, fields: 2, binds: 1 },
+    MarkRow { mark: 0x4152, fields: 3, binds: 1 },
+    MarkRow { mark: 0x4946, fields: 1, binds: 0 },
+];
+
+// A mark's place in the table; 15 stands for no mark of the table, and 16 for a file that ends within the mark.
+pub const CN: usize = 0;
+pub const FN: usize = 1;
+pub const BD: usize = 2;
+pub const ND: usize = 3;
+pub const GV: usize = 4;
+pub const AT: usize = 5;
+pub const MK: usize = 6;
+pub const CL: usize = 7;
+pub const TL: usize = 8;
+pub const OP: usize = 9;
+pub const LK: usize = 10;
+pub const BR: usize = 11;
+pub const NU: usize = 12;
+pub const AR: usize = 13;
+pub const IF: usize = 14;
+pub const OTHER: usize = 15;
+pub const EARLY: usize = 16;
+
+// The limits of a file: bytes, constructors, functions, slots and nodes on any path, branches in a list, and what one record may say.
+pub const BYTES: usize = 4096;
+pub const CONSTRUCTORS: usize = 64;
+pub const FUNCTIONS: usize = 32;
+pub const SLOTS: usize = 32;
+pub const NODES: usize = 64;
+pub const BRANCHES: u8 = 64;
+pub const FIELDS: u8 = 4;
+pub const PARAMETERS: u8 = 8;
+
+fn table_row(i: usize) -> MarkRow
+    requires { ⌜ i < 15 ⌝ }
+    ensures { λ r. ⌜ r ≡ rowAt i ⌝ }
+{
+    MARKS[i]
+}
+
+// The row at a place in the table of marks; past the table, a row of zeros.
+pub fn mark_row(i: usize) -> MarkRow
+    ensures { λ r. ⌜ r ≡ rowAt i ⌝ }
+{
+    if i < 15 {
+        return table_row(i);
+    }
+    MarkRow { mark: 0, fields: 0, binds: 0 }
+}
+
+// The place of a mark in the table, or 15.
+pub fn find_mark(mark: u16) -> usize
+    ensures { λ r. ⌜ r ≡ findMark mark ⌝ }
+{
+    match mark {
+        0x434E => CN,
+        0x464E => FN,
+        0x4244 => BD,
+        0x4E44 => ND,
+        0x4756 => GV,
+        0x4154 => AT,
+        0x4D4B => MK,
+        0x434C => CL,
+        0x544C => TL,
+        0x4F50 => OP,
+        0x4C4B => LK,
+        0x4252 => BR,
+        0x4E55 => NU,
+        0x4152 => AR,
+        0x4946 => IF,
+        _ => OTHER,
+    }
+}
+
+// A slot is a number, lent, owned, a credit of a size, or used; a used one keeps the kind that it had.
+pub enum Kind {
+    Number,
+    Lent,
+    Owned,
+    Credit(u8),
+    UsedOwned,
+    UsedCredit(u8),
+}
+
+// A slot with the place of the mark that bound it.
+pub struct Slot {
+    pub kind: Kind,
+    pub place: u16,
+}
+
+// How one function calls another: not at all, by tail calls only, or by a call that waits.
+pub enum How {
+    Never,
+    Tail,
+    Waits,
+}
+
+// A call written in a body.
+pub struct Call {
+    pub caller: usize,
+    pub callee: usize,
+    pub how: How,
+}
+
+// The checker's verdict: flat with depth and functions reached, stacked with functions reached, or refused by a number at a place.
+pub enum Verdict {
+    Flat(u32, u32),
+    Stacked(u32),
+    Refused(u32, u32),
+}
+
+// How a run ends: with a value, by a refusal's number, with no branch that fits, with the budget spent, or for want of a frame.
+pub enum End {
+    Done,
+    Refused(u32),
+    NoBranch,
+    BudgetSpent,
+    NoFrame,
+}
+
+// The answer of a run.
+pub struct Answer {
+    pub end: End,
+    pub value: u32,
+    pub steps: u32,
+    pub place: u32,
+    pub frames: u32,
+}

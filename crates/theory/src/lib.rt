@@ -1,0 +1,1 @@
+// The theorems stand in proofs/; this crate has no code of its own.
