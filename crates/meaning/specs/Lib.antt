@@ -1,3 +1,4 @@
+pub mod Choice
 pub mod Marks
 pub mod Syntax
 pub mod Outcome
@@ -10,9 +11,11 @@ pub mod Verdict
 pub mod Examples
 pub mod Plain
 pub mod Machine
+pub mod Walk
 pub mod Start
 pub mod Decode
 pub mod Runs
 pub mod InPlace
+pub mod Answers
 pub mod InPlaceRuns
 pub mod Scan

@@ -10,7 +10,8 @@ use Rattle.meaning.specs.Ownership.{Slots, bind, kind-of}
 use Rattle.meaning.specs.Derivation.{Has}
 use Rattle.meaning.specs.Plain.{Value}
 use Rattle.meaning.specs.Machine.{Held, Store, Frame, State, step, finished, body-of, function-of}
-use Rattle.meaning.specs.Start.{count, chosen, is-owned, begin}
+use Rattle.meaning.specs.Start.{chosen, is-owned, begin}
+use Rattle.meaning.specs.Walk.{count}
 use Rattle.meaning.specs.Verdict.{accepted}
 use Rattle.meaning.specs.InPlace.{after, owned-word, credited, of-slots, of-frames, owned-words, credits, Reaches, In-place, value-word, begins, Runs-in-place}
 use Rattle.theory.proofs.Rep.{Match}

@@ -13,7 +13,8 @@ use Rattle.meaning.specs.Ownership.{Kind, Slot, Slots, kind-owned}
 use Rattle.meaning.specs.Derivation.{Split, left, right, Has, here, there}
 use Rattle.meaning.specs.Plain.{Value, Values}
 use Rattle.meaning.specs.Machine.{Held, Store, word, word-at, cell}
-use Rattle.meaning.specs.Start.{count, inside, tree-words}
+use Rattle.meaning.specs.Start.{inside, tree-words}
+use Rattle.meaning.specs.Walk.{count}
 use Rattle.meaning.specs.InPlace.{Reaches, owned-word, credited, of-slots, value-word, walk, with-cell}
 use Rattle.theory.proofs.Splits.{has-split}
 use Rattle.theory.proofs.Passing.{contradiction}

@@ -1,0 +1,3 @@
+pub mod Bytes
+pub mod Stands
+pub mod Table
