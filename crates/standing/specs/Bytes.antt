@@ -10,6 +10,11 @@ byteAt bytes p = getD bytes p 0
 abbrev pub markAt : List ℕ → ℕ → ℕ
 markAt bytes p = byteAt bytes p * 256 + byteAt bytes (p + 1)
 
+-- n bytes from a place on
+unfoldable pub bytesAt : List ℕ → ℕ → ℕ → List ℕ
+bytesAt f a zero = []
+bytesAt f a (suc n) = getD f a 0 ∷ bytesAt f (suc a) n
+
 -- A file's declarations as 128 words: 64 constructors, 32 functions, the places of 32 bodies. A constructor's word is its arity and 256 times
 -- the place of its first field's byte; a function's word is its count of parameters and 256 times the place of its first parameter's byte
 abbrev pub arityIn : List ℕ → ℕ → ℕ
