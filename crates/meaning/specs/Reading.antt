@@ -1,6 +1,5 @@
--- Reading: a byte list is a File, or is refused by 1 to 6. Each record's mark, then its fields, then the limits.
--- A reader takes the place it stands at and the bytes from there, and gives what it read with both as they are after it.
--- Assumes nothing.
+-- Reading: a byte list is a File, or is refused by 1 to 6, "record by record, each record's mark, then fields left to right, then limits".
+-- A reader takes the place it stands at and the bytes from there, and gives what it read with both as they are after it. Assumes nothing.
 use Prim.Native.Nat.{ℕ, zero, suc, _+_, _*_}
 use mathlib.Core.Bool.{Bool, true, false, not, _&&_, _||_}
 use mathlib.Core.List.{List, [], _∷_, _++_}
@@ -31,17 +30,17 @@ fail answer place = λ at bytes. refuse answer place
 abbrev pub here : Reader ℕ
 here = λ at bytes. ok (at, at, bytes)
 
--- one byte; 2, at the file's length, where there is none
+-- "Fields are one byte"; 2, at the file's length: "file ends early, even within a mark"
 abbrev pub byte : Reader ℕ
 byte at [] = refuse 2 at
 byte at (b ∷ bytes) = ok (b, suc at, bytes)
 
--- go on where the test passes
+-- go on where the test passes, else refuse at the place
 abbrev pub ensure : (answer place : ℕ) → Bool → Reader (Unit {0})
 ensure answer place true = return tt
 ensure answer place false = fail answer place
 
--- a field that is below `limit`
+-- 4, at the field: "field out of range"
 unfoldable pub below : (limit : ℕ) → Reader ℕ
 below limit = do
   p ← here
@@ -56,13 +55,14 @@ times (suc n) m = do
   as′ ← times n m
   return (a ∷ as′)
 
+-- "each with a two-byte ASCII mark"
 unfoldable pub mark : Reader Mark
 mark = do
   a ← byte
   b ← byte
   return (find (a * 256 + b) marks other)
 
--- a mark that must stand here
+-- 3, at the mark: "a mark not allowed here"; only this one is
 unfoldable pub expect : ℕ → Reader (Unit {0})
 expect code = do
   p ← here
@@ -70,17 +70,19 @@ expect code = do
   b ← byte
   ensure 3 p (eqb (a * 256 + b) code)
 
+-- "0 number, 1 tree"
 unfoldable pub sort : Reader Sort
 sort = do
   b ← below 2
   return (elim b [ zero ↦ Sort.number | suc _ ↦ Sort.tree ])
 
+-- "0 number, 1 lent, 2 owned"
 unfoldable pub mode : Reader Mode
 mode = do
   b ← below 3
   return (elim b [ zero ↦ Mode.number | suc c ↦ elim c [ zero ↦ Mode.lent | suc _ ↦ Mode.owned ] ])
 
--- a field that names an entry of a list, which passes a test
+-- 4, at the field: "undeclared, or wrong arity for AT or MK"; the field names an entry of a list, which passes a test
 unfoldable pub declared : {A : Type 0} → List A → (A → Bool) → Reader (ℕ × A)
 declared as′ test = do
   p ← here
@@ -102,13 +104,14 @@ is-atom (_ ∷ _) = false
 abbrev pub is-node : Constructor → Bool
 is-node c = not (is-atom c)
 
--- how many slots a branch binds: the fields and, in a branch of OP, a credit where the arity is 1 or more
+-- "A branch of OP binds the fields and then, if the arity is 1 or more, one credit": how many credits
 abbrev pub credits : Constructor → ℕ
 credits [] = 0
 credits (_ ∷ _) = 1
 
 module _ (constructors : List Constructor) (functions : List Signature) where
-  -- a record's limits: 64 nodes with this one, 32 slots with those that it binds
+  -- 5, at the mark: "32 slots on any path (parameters included), 64 nodes on any path (every mark from GV on except BR is a node)"; the counts
+  -- are those with this node and with the slots that it binds
   unfoldable pub limits : (place slots nodes : ℕ) → Reader (Unit {0})
   limits place slots nodes = ensure 5 place (leb nodes 64 && leb slots 32)
 
@@ -116,15 +119,18 @@ module _ (constructors : List Constructor) (functions : List Signature) where
   -- `term` and `branches` read the terms and the branches that follow
   unfoldable pub node : (term : (slots nodes : ℕ) → Reader Term) → (branches : (count : ℕ) → (Constructor → ℕ) → (slots nodes : ℕ) → Reader Branches)
       → (slots nodes place : ℕ) → Mark → Reader Term
+  -- GV: "slot"
   node term branches slots nodes p GV = do
     s ← byte
     limits p slots (suc nodes)
     return (Term.GV p s)
+  -- AT: "atom constructor"
   node term branches slots nodes p AT = do
     c ← declared constructors is-atom
     limits p (suc slots) (suc nodes)
     t ← term (suc slots) (suc nodes)
     return (Term.AT p (c .0) t)
+  -- MK: "constructor of arity k, at least 1; credit slot; k slots"
   node term branches slots nodes p MK = do
     c ← declared constructors is-node
     k ← byte
@@ -132,6 +138,7 @@ module _ (constructors : List Constructor) (functions : List Signature) where
     limits p (suc slots) (suc nodes)
     t ← term (suc slots) (suc nodes)
     return (Term.MK p (c .0) k ss t)
+  -- CL, TL: "function; its argument slots"
   node term branches slots nodes p CL = do
     f ← declared functions any
     ss ← times (length (f .1 .parameters)) byte
@@ -143,6 +150,7 @@ module _ (constructors : List Constructor) (functions : List Signature) where
     ss ← times (length (f .1 .parameters)) byte
     limits p slots (suc nodes)
     return (Term.TL p (f .0) ss)
+  -- OP, LK: "slot; branch count 1..64; branches"
   node term branches slots nodes p OP = do
     s ← byte
     q ← here
@@ -159,12 +167,14 @@ module _ (constructors : List Constructor) (functions : List Signature) where
     limits p slots (suc nodes)
     bs ← branches k (λ c. 0) slots (suc nodes)
     return (Term.LK p s bs)
+  -- NU: "constant", of two bytes, "high byte first"
   node term branches slots nodes p NU = do
     h ← byte
     l ← byte
     limits p (suc slots) (suc nodes)
     t ← term (suc slots) (suc nodes)
     return (Term.NU p (h * 256 + l) t)
+  -- AR: "operation 0..3; two slots"
   node term branches slots nodes p AR = do
     o ← below 4
     x ← byte
@@ -172,12 +182,14 @@ module _ (constructors : List Constructor) (functions : List Signature) where
     limits p (suc slots) (suc nodes)
     t ← term (suc slots) (suc nodes)
     return (Term.AR p o x y t)
+  -- IF: "slot; two terms". "Branches, and the two terms of IF, start from the same slots."
   node term branches slots nodes p IF = do
     s ← byte
     limits p slots (suc nodes)
     t ← term slots (suc nodes)
     u ← term slots (suc nodes)
     return (Term.IF p s t u)
+  -- 3, at the mark: "a mark not allowed here"
   node term branches slots nodes p CN = fail 3 p
   node term branches slots nodes p FN = fail 3 p
   node term branches slots nodes p BD = fail 3 p
@@ -185,7 +197,7 @@ module _ (constructors : List Constructor) (functions : List Signature) where
   node term branches slots nodes p BR = fail 3 p
   node term branches slots nodes p other = fail 3 p
 
-  -- the term that starts here; `fuel` is more than the bytes left
+  -- "a term holds the terms that follow it; a term holds branches and a branch holds a term". `fuel` is more than the bytes left
   unfoldable mutual
     pub term : (fuel slots nodes : ℕ) → Reader Term
     term zero slots nodes = λ at bytes. refuse 2 at
@@ -207,12 +219,13 @@ module _ (constructors : List Constructor) (functions : List Signature) where
       bs ← branches n k extra slots nodes
       return (Branches.BR p (c .0) t bs)
 
--- CN's fields, and FN's
+-- CN: "arity 0..4; per field 0 number, 1 tree"
 unfoldable pub constructor : Reader Constructor
 constructor = do
   k ← below 5
   times k sort
 
+-- FN: "count 0..8; per parameter 0 number, 1 lent, 2 owned; result 0 number, 1 tree"
 unfoldable pub signature : Reader Signature
 signature = do
   k ← below 9
@@ -220,7 +233,7 @@ signature = do
   r ← sort
   return (record { parameters = ms; result = r })
 
--- the bodies, from behind the first BD: a term for each function, BD between them and ND behind, and nothing after
+-- 6, at the first of them: "bytes after ND"
 unfoldable pub finish : Reader (Unit {0})
 finish at [] = ok (tt, at, [])
 finish at (b ∷ bytes) = refuse 6 at
@@ -230,6 +243,7 @@ abbrev pub between : List Signature → Reader (Unit {0})
 between [] = return tt
 between (f ∷ fs) = expect 0x4244
 
+-- the bodies from behind the first BD: "one BD for each FN in order, ND, and nothing else". "A body is one term"
 unfoldable pub bodies : (fuel : ℕ) → List Constructor → List Signature → List Signature → Reader (List Term)
 bodies fuel cs fs [] = do
   expect 0x4E44
@@ -241,7 +255,8 @@ bodies fuel cs fs (f ∷ rest) = do
   ts ← bodies fuel cs fs rest
   return (t ∷ ts)
 
--- CN, then FN, then BD: the rest of the file behind a mark at `p`; `header` reads on with one constructor or function more
+-- "A file is any number of CN, one or more FN, one BD for each FN": the rest of the file behind a mark at `p`; `header` reads on with one
+-- constructor or function more. "Limits: 64 constructors, 32 functions"
 unfoldable pub entry : (header : List Constructor → List Signature → Reader File) → (size : ℕ) → List Constructor → (place : ℕ) → Mark → List Signature → Reader File
 entry header size cs p CN fs =
     elim fs [
@@ -283,6 +298,7 @@ header (suc n) size cs fs = do
   m ← mark
   entry (λ cs′ fs′. header n size cs′ fs′) size cs p m fs
 
+-- 1, at 0: "file over 4,096 bytes"
 unfoldable pub read : List ℕ → Outcome File
 read bytes =
     let size = length bytes in

@@ -11,50 +11,133 @@ pub struct MarkRow {
 }
 
 const MARKS: [MarkRow; 15] = [
-    MarkRow { mark: 0x434E, fields: 1, binds: 0 },
-    MarkRow { mark: 0x464E, fields: 1, binds: 0 },
-    MarkRow { mark: 0x4244, fields: 0, binds: 0 },
-    MarkRow { mark: 0x4E44, fields: 0, binds: 0 },
-    MarkRow { mark: 0x4756, fields: 1, binds: 0 },
-    MarkRow { mark: 0x4154, fields: 1, binds: 1 },
-    MarkRow { mark: 0x4D4B, fields: 2, binds: 1 },
-    MarkRow { mark: 0x434C, fields: 1, binds: 1 },
-    MarkRow { mark: 0x544C, fields: 1, binds: 0 },
-    MarkRow { mark: 0x4F50, fields: 2, binds: 0 },
-    MarkRow { mark: 0x4C4B, fields: 2, binds: 0 },
-    MarkRow { mark: 0x4252, fields: 1, binds: 0 },
-    MarkRow { mark: 0x4E55, fields: 2, binds: 1 },
-    MarkRow { mark: 0x4152, fields: 3, binds: 1 },
-    MarkRow { mark: 0x4946, fields: 1, binds: 0 },
+    MarkRow {
+        mark: 0x434E,
+        fields: 1,
+        binds: 0,
+    },
+    MarkRow {
+        mark: 0x464E,
+        fields: 1,
+        binds: 0,
+    },
+    MarkRow {
+        mark: 0x4244,
+        fields: 0,
+        binds: 0,
+    },
+    MarkRow {
+        mark: 0x4E44,
+        fields: 0,
+        binds: 0,
+    },
+    MarkRow {
+        mark: 0x4756,
+        fields: 1,
+        binds: 0,
+    },
+    MarkRow {
+        mark: 0x4154,
+        fields: 1,
+        binds: 1,
+    },
+    MarkRow {
+        mark: 0x4D4B,
+        fields: 2,
+        binds: 1,
+    },
+    MarkRow {
+        mark: 0x434C,
+        fields: 1,
+        binds: 1,
+    },
+    MarkRow {
+        mark: 0x544C,
+        fields: 1,
+        binds: 0,
+    },
+    MarkRow {
+        mark: 0x4F50,
+        fields: 2,
+        binds: 0,
+    },
+    MarkRow {
+        mark: 0x4C4B,
+        fields: 2,
+        binds: 0,
+    },
+    MarkRow {
+        mark: 0x4252,
+        fields: 1,
+        binds: 0,
+    },
+    MarkRow {
+        mark: 0x4E55,
+        fields: 2,
+        binds: 1,
+    },
+    MarkRow {
+        mark: 0x4152,
+        fields: 3,
+        binds: 1,
+    },
+    MarkRow {
+        mark: 0x4946,
+        fields: 1,
+        binds: 0,
+    },
 ];
 
 // A mark's place in the table; 15 stands for no mark of the table, and 16 for a file that ends within the mark.
 pub const CN: usize = 0;
+
 pub const FN: usize = 1;
+
 pub const BD: usize = 2;
+
 pub const ND: usize = 3;
+
 pub const GV: usize = 4;
+
 pub const AT: usize = 5;
+
 pub const MK: usize = 6;
+
 pub const CL: usize = 7;
+
 pub const TL: usize = 8;
+
 pub const OP: usize = 9;
+
 pub const LK: usize = 10;
+
 pub const BR: usize = 11;
+
 pub const NU: usize = 12;
+
 pub const AR: usize = 13;
+
 pub const IF: usize = 14;
+
 pub const OTHER: usize = 15;
+
 pub const EARLY: usize = 16;
 
 // The limits of a file: bytes, constructors, functions, slots and nodes on any path, branches in a list, and what one record may say.
 pub const BYTES: usize = 4096;
+
 pub const CONSTRUCTORS: usize = 64;
+
 pub const FUNCTIONS: usize = 32;
+
 pub const SLOTS: usize = 32;
+
 pub const NODES: usize = 64;
+
 pub const BRANCHES: u8 = 64;
+
 pub const FIELDS: u8 = 4;
+
 pub const PARAMETERS: u8 = 8;
 
 fn table_row(i: usize) -> MarkRow
@@ -71,7 +154,11 @@ pub fn mark_row(i: usize) -> MarkRow
     if i < 15 {
         return table_row(i);
     }
-    MarkRow { mark: 0, fields: 0, binds: 0 }
+    MarkRow {
+        mark: 0,
+        fields: 0,
+        binds: 0,
+    }
 }
 
 // The place of a mark in the table, or 15.

@@ -15,7 +15,6 @@ use Rattle.meaning.specs.Reading.{Reader, byte, ensure, times, declared, below}
 use Rattle.standing.specs.Bytes.{bytesAt}
 
 module _ {B : Type 0} (f : List ℕ) (Goal : Outcome (B × ℕ × List ℕ) → Type 0) where
-
   pub byte-gen : (a : ℕ) (k : ℕ × ℕ × List ℕ → Outcome (B × ℕ × List ℕ)) → a ≤ length f → (length f ≤ a → Goal (refuse 2 (length f)))
       → (a < length f → Goal (k (getD f a 0, suc a, drop (suc a) f))) → Goal (then (byte a (drop a f)) k)
   byte-gen a k h short goes = go (leb (length f) a) refl
@@ -130,7 +129,7 @@ bytes-gen {B} f Goal (suc n) a k h short goes = go (leb (length f) a) refl (λ k
   where
     go : (x : Bool) → leb (length f) a ≡ x
         → ((k′ : List ℕ × ℕ × List ℕ → Outcome (B × ℕ × List ℕ)) → suc a ≤ length f
-          → ((b : ℕ) → b ≡ suc a + n → b ≤ length f → Goal (k′ (bytesAt f (suc a) n, b, drop b f))) → Goal (then (times n byte (suc a) (drop (suc a) f)) k′))
+        → ((b : ℕ) → b ≡ suc a + n → b ≤ length f → Goal (k′ (bytesAt f (suc a) n, b, drop b f))) → Goal (then (times n byte (suc a) (drop (suc a) f)) k′))
         → Goal (then (times (suc n) byte a (drop a f)) k)
     go true e more =
         let l = leb-true (length f) a e in

@@ -16,8 +16,8 @@ use Rattle.meaning.specs.Machine.{Held, Store, body-of, function-of}
 use Rattle.meaning.specs.Start.{begin}
 use Rattle.meaning.specs.Verdict.{accepted}
 use Rattle.meaning.specs.InPlace.{Runs-in-place}
-use Rattle.meaning.specs.Examples.{reversal}
-use Rattle.meaning.specs.Runs.{two-cells}
+use Rattle.meaning.specs.Cases.{reversal}
+use Rattle.meaning.specs.Cases.{two-cells}
 use Rattle.theory.proofs.Rep.{Tree, Fields, Holds, Slot-holds, Match, next, live}
 use Rattle.theory.proofs.Sim.{Once}
 use Rattle.theory.proofs.Reached.{has-count}
