@@ -1,1 +1,4 @@
 pub mod Readers
+pub mod Stood
+pub mod Named
+pub mod Terms
