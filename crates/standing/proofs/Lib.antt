@@ -2,3 +2,8 @@ pub mod Readers
 pub mod Stood
 pub mod Named
 pub mod Terms
+pub mod Records
+pub mod Heads
+pub mod Bodies
+pub mod Words
+pub mod Declaring

@@ -19,6 +19,16 @@ pub on-with : {A B : Type 0} (f : List ℕ) (P : A → ℕ → Type 0) (Q : B �
 on-with f P Q (ok r) k (stood {a = a} {n = n} e h x) c = subst (λ b. Stood f Q (k (a, n, b))) (sym e) (c a n h x)
 on-with f P Q (refuse x p) k refused c = refused
 
+-- the same, for any claim on the outcome
+pub on-goal : {A B : Type 0} (f : List ℕ) (P : A → ℕ → Type 0) (Goal : Outcome B → Type 0) (o : Outcome (A × ℕ × List ℕ)) (k : A × ℕ × List ℕ → Outcome B)
+    → Stood f P o → ((x p : ℕ) → Goal (refuse x p)) → ((a : A) (n : ℕ) → n ≤ length f → P a n → Goal (k (a, n, drop n f))) → Goal (then o k)
+on-goal f P Goal (ok r) k (stood {a = a} {n = n} e h x) c d = subst (λ b. Goal (k (a, n, b))) (sym e) (d a n h x)
+on-goal f P Goal (refuse x p) k refused c d = c x p
+
+pub weaker : {A : Type 0} {f : List ℕ} {P Q : A → ℕ → Type 0} {o : Outcome (A × ℕ × List ℕ)} → ((a : A) (n : ℕ) → P a n → Q a n) → Stood f P o → Stood f Q o
+weaker g (stood e h x) = stood e h (g _ _ x)
+weaker g refused = refused
+
 pub got : {A : Type 0} {f : List ℕ} {P : A → ℕ → Type 0} {r : A × ℕ × List ℕ} → Stood f P (ok r) → P (r .0) (r .1) × (r .1 ≤ length f) × (r .2 ≡ drop (r .1) f)
 got (stood e h x) = (x, h, e)
 

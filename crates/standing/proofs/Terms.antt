@@ -163,7 +163,7 @@ module _ (file : File) (f : List ℕ) where
     many : (extra : Constructor → ℕ) (h : ℕ → Branches → Term)
         → ((bs : Branches) (n : ℕ) → at + 4 ≤ length f → getD f (at + 3) 0 ≡ count bs → Each file f slots extra (at + 4) bs n → Good at slots (h (getD f (at + 2) 0) bs) n)
         → Goal (then (byte (at + 2) (drop (at + 2) f)) (λ s. then (byte (s .1) (s .2)) (λ k. then (ensure 4 (s .1) (ltb 0 (k .0) && leb (k .0) 64) (k .1) (k .2))
-          (λ u. then (limits cs fs at slots (suc nodes) (u .1) (u .2)) (λ w. then (B (k .0) extra slots (suc nodes) (w .1) (w .2)) (λ r. ok (h (s .0) (r .0), r .1, r .2)))))))
+        (λ u. then (limits cs fs at slots (suc nodes) (u .1) (u .2)) (λ w. then (B (k .0) extra slots (suc nodes) (w .1) (w .2)) (λ r. ok (h (s .0) (r .0), r .1, r .2)))))))
     many extra h made =
         byte-gen f Goal (at + 2) _ h2 (λ _. refused) (λ l. byte-gen f Goal (suc (at + 2)) _ l (λ _. refused)
         (λ l′. ensure-gen f Goal 4 (suc (at + 2)) (suc (suc (at + 2))) (drop (suc (suc (at + 2))) f) (ltb 0 (getD f (suc (at + 2)) 0) && leb (getD f (suc (at + 2)) 0) 64) _ (λ z. refused)
