@@ -96,3 +96,20 @@ module _ (file : File) (f : List ℕ) where
   pub laid-first : {gs : List Signature} {at : ℕ} {ts : List Term} → Laid gs at ts → 1 ≤ length gs → place-of (getD ts 0 no-body) ≡ at
   laid-first (last m e) h = absurd (omega arith)
   laid-first (body h p s n l) u = p
+
+  -- BD and the next body behind each body but the last, ND and the file's end behind that
+  pub laid-between : {gs : List Signature} {at : ℕ} {ts : List Term} (l : Laid gs at ts) (i : ℕ) → suc i < length gs
+      → (markAt f (ends-of l i) ≡ 16964) × (place-of (getD ts (suc i) no-body) ≡ ends-of l i + 2)
+  unfolding ends-of
+  laid-between (last m e) i u = absurd (omega arith)
+  laid-between (body h p s n (last m e)) zero u = absurd (omega arith)
+  laid-between (body h p s n (body h′ p′ s′ n′ l)) zero u = (n .0, p′ ∙ n .1)
+  laid-between (body h p s n l) (suc i) u = laid-between l i (omega arith)
+
+  pub laid-last : {gs : List Signature} {at : ℕ} {ts : List Term} (l : Laid gs at ts) (i : ℕ) → suc i ≡ length gs
+      → (markAt f (ends-of l i) ≡ 20036) × (length f ≡ ends-of l i + 2)
+  unfolding ends-of
+  laid-last (last m e) i u = absurd (omega arith)
+  laid-last (body h p s n (last m e)) zero u = (subst (λ a. markAt f a ≡ 20036) n m, e ∙ ap (λ a. a + 2) n)
+  laid-last (body h p s n (body h′ p′ s′ n′ l)) zero u = absurd (omega arith)
+  laid-last (body h p s n l) (suc i) u = laid-last l i (omega arith)

@@ -26,7 +26,7 @@ fit-places (t ∷ ts) h (suc i) = fit-places ts (λ j l. h (suc j) (omega arith)
 
 module _ (f : List ℕ) (file : File) (O : Opened f file) (size : length f ≤ 4096) where
   -- the bodies stand from behind BD on
-  laid : Laid file f (file .functions) (O .at + 2) (file .bodies)
+  pub laid : Laid file f (file .functions) (O .at + 2) (file .bodies)
   laid =
       subst (λ ts. Laid file f (file .functions) (O .at + 2) ts) (O .gives)
       (got (subst (Stood f (λ ts n. Laid file f (file .functions) (O .at + 2) ts)) (O .reads) (bodies-stood file f (length f) (file .functions) (O .at + 2) (O .inside))) .0)
@@ -151,6 +151,9 @@ module _ (f : List ℕ) (file : File) (O : Opened f file) (size : length f ≤ 4
       let e = many-3 in
       in-3 g ∙ filled-given 32 third-part g (omega arith) ∙ List·getD-map place-of (file .bodies) g no-body
 
+  first-body : bodyIn (tableOf file) 0 ≡ O .at + 2
+  first-body = table-bodies 0 (O .first) ∙ laid-first file f laid (O .first)
+
   opened-declared : Declared file f (tableOf file)
   opened-declared = record {
     wide = table-wide;
@@ -177,3 +180,17 @@ module _ (f : List ℕ) (file : File) (O : Opened f file) (size : length f ≤ 4
 -- a file that is read: what its table says of it, and that its bodies stand
 pub read-declared : (bytes : List ℕ) (file : File) → read bytes ≡ ok file → Declared file bytes (tableOf file)
 read-declared bytes file e = let o = read-opened bytes file e in opened-declared bytes file (o .0) (o .1)
+
+-- the bodies are read from the place of the first body's term
+pub read-bodies : (bytes : List ℕ) (file : File) → read bytes ≡ ok file
+    → (r : List Term × ℕ × List ℕ)
+    × (bodies (length bytes) (file .constructors) (file .functions) (file .functions) (bodyIn (tableOf file) 0) (drop (bodyIn (tableOf file) 0) bytes) ≡ ok r)
+    × (r .0 ≡ file .bodies) × (bodyIn (tableOf file) 0 ≤ length bytes)
+read-bodies bytes file e =
+    let o = read-opened bytes file e in
+    let p = first-body bytes file (o .0) (o .1) in (
+      o .0 .result,
+      subst (λ a. bodies (length bytes) (file .constructors) (file .functions) (file .functions) a (drop a bytes) ≡ ok (o .0 .result)) (sym p) (o .0 .reads),
+      o .0 .gives,
+      omega (arith, p, o .0 .inside),
+    )

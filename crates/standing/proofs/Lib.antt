@@ -7,3 +7,5 @@ pub mod Heads
 pub mod Bodies
 pub mod Words
 pub mod Declaring
+pub mod Ending
+pub mod Between
