@@ -17,8 +17,7 @@ use Rattle.meaning.specs.Derivation.{Has}
 use Rattle.meaning.specs.Plain.{Value, Values, number, node, credit, Run, value, stop, eval, evaluate, branch, place-of}
 use Rattle.meaning.specs.Plain as P
 use Rattle.meaning.specs.Machine.{Store, Answer, answers, run, body-of, function-of, word}
-use Rattle.meaning.specs.Decode.{plain, plain-args, mode-of}
-use Rattle.meaning.specs.Runs.{as-plain}
+use Rattle.meaning.specs.Decode.{plain, plain-args, mode-of, as-plain}
 use Rattle.meaning.specs.Start.{Reached, chosen, is-owned, start, answer-to, begin, budget-of}
 use Rattle.meaning.specs.Verdict.{accepted}
 use Rattle.meaning.specs.InPlace.{begins}
