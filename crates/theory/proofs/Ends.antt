@@ -1,12 +1,11 @@
 -- The end of a run and its number in document 01's table, and a run's answer held against the plain evaluation's. Assumes nothing.
-use Prim.Native.Nat.{ℕ, zero, suc, _+_, _≤_, _<_}
-use mathlib.Core.Bool.{Bool, true, false, _&&_}
-use mathlib.Core.List.{List, [], _∷_, _++_}
-use mathlib.Core.Path.{_≡_, refl, sym, ap, _∙_, subst}
+use Prim.Native.Nat.{ℕ, zero, suc, _≤_}
+use mathlib.Core.Bool.{false}
+use mathlib.Core.List.{List}
+use mathlib.Core.Path.{_≡_, refl, sym}
 use mathlib.Core.Logic.{_⊎_, inl, inr, ⊎-elim}
 use native.Mathlib.Omega.{arith}
-use lib.ListN.{length, drop, replicate, length-append, length-replicate, length-drop}
-use lib.Dec.{eqb, ltb, leb}
+use lib.Dec.{ltb}
 use borrow.Author.Tests.{eq-eqb, ne-eqb, lt-ltb, le-ltb, le-leb, lt-leb}
 use Rattle.meaning.specs.declared.End.{End}
 use Rattle.meaning.specs.declared.End.the-variants as end

@@ -1,8 +1,8 @@
 -- The four ways in which a call of the running program is answered: the file is not read, its ownership is refused, its start is refused, or it
 -- runs. Assumes nothing.
-use Prim.Native.Nat.{ℕ, zero, suc, _+_, _≤_, _<_, max}
-use mathlib.Core.List.{List, [], _∷_}
-use mathlib.Core.Path.{_≡_, refl, sym, ap, _∙_, subst}
+use Prim.Native.Nat.{ℕ, _≤_}
+use mathlib.Core.List.{List}
+use mathlib.Core.Path.{_≡_, refl, sym, subst}
 use mathlib.Core.Logic.{_⊎_, inl, inr}
 use native.Mathlib.Omega.{arith}
 use Rattle.meaning.specs.Syntax.{File}
@@ -10,10 +10,9 @@ use Rattle.meaning.specs.Outcome.{Outcome, ok, refuse, _>>=_}
 use Rattle.meaning.specs.Reading.{read}
 use Rattle.meaning.specs.Ownership.{check-file}
 use Rattle.meaning.specs.Verdict.{accepted}
-use Rattle.meaning.specs.Machine.{Store, Answer, answers, run}
+use Rattle.meaning.specs.Machine.{Store, Answer, answers}
 use Rattle.meaning.specs.Start.{start, answer-to, budget-of}
 use Rattle.meaning.specs.InPlace.{begins, Ended}
-use Rattle.theory.proofs.Taking.{refused}
 use Rattle.theory.proofs.Answered.{answer-ended}
 use Rattle.theory.proofs.Refusals.{read-refuses, check-refuses}
 use Rattle.theory.proofs.StartExact.{start-answers}

@@ -1,11 +1,9 @@
 -- An accepted file runs in place from every start that is not refused: after each step, at the end, and for each budget. Assumes nothing.
-use Prim.Native.Nat.{ℕ, zero, suc, _+_, _≤_, _<_}
-use mathlib.Core.List.{List, [], _∷_, _++_}
-use mathlib.Core.Path.{_≡_, refl, sym, ap, _∙_, subst}
-use native.Mathlib.Omega.{arith}
-use lib.ListN.{length}
-use Rattle.meaning.specs.Syntax.{Sort, Constructor, File}
-use Rattle.meaning.specs.Outcome.{Outcome, ok}
+use Prim.Native.Nat.{ℕ, suc}
+use mathlib.Core.List.{List, []}
+use mathlib.Core.Path.{_≡_, sym, subst}
+use Rattle.meaning.specs.Syntax.{File}
+use Rattle.meaning.specs.Outcome.{ok}
 use Rattle.meaning.specs.Machine.{Store, function-of}
 use Rattle.meaning.specs.Start.{start, answer-to, budget-of}
 use Rattle.meaning.specs.Verdict.{accepted}

@@ -1,13 +1,13 @@
 -- The verdict on a file that was read: flat, stacked or refused exactly as the derivation rules and the walks of calls say. Assumes nothing.
-use Prim.Native.Nat.{ℕ, zero, suc, _+_, _≤_, _<_}
-use mathlib.Core.List.{List, [], _∷_}
-use mathlib.Core.Path.{_≡_, refl, sym, ap, _∙_, subst}
-use mathlib.Core.Logic.{_⊎_, inl, inr, _↔_}
+use Prim.Native.Nat.{ℕ, _≤_}
+use mathlib.Core.List.{List}
+use mathlib.Core.Path.{_≡_, refl, sym, ap, _∙_}
+use mathlib.Core.Logic.{_↔_}
 use native.Mathlib.Omega.{arith}
 use Rattle.meaning.specs.declared.Verdict.{Verdict}
 use Rattle.meaning.specs.declared.Verdict.the-variants as verdict
 use Rattle.meaning.specs.Syntax.{File}
-use Rattle.meaning.specs.Outcome.{Outcome, ok, refuse, _>>=_}
+use Rattle.meaning.specs.Outcome.{Outcome, ok, refuse}
 use Rattle.meaning.specs.Reading.{read}
 use Rattle.meaning.specs.Ownership.{check-file}
 use Rattle.meaning.specs.Derivation.{Derivable}
@@ -90,3 +90,19 @@ judged bytes file r = go (check-file file) refl
     go : (o : Outcome (Unit {0})) → check-file file ≡ o → Judged bytes file
     go (ok u) c = accepted-judged bytes file r c
     go (refuse n p) c = refused-judged bytes file n p r c
+
+-- the shape of a flat file
+verdict-accepted : (bytes : List ℕ) (file : File) → accepted bytes ≡ ok file → verdictOf bytes ≡ told (ok (shape file))
+unfolding verdictOf checking.verdict
+verdict-accepted bytes file e = rw (e, checking.verdict)
+
+pub flat-shape : (bytes : List ℕ) (file : File) (D R : ℕ) → accepted bytes ≡ ok file → verdictOf bytes ≡ verdict.Flat D R → shape file ≡ flat D R
+flat-shape bytes file D R a v = told-flat (shape file) D R (sym (verdict-accepted bytes file a) ∙ v)
+
+-- a verdict on a file that was read
+pub verdict-few : (bytes : List ℕ) (file : File) → read bytes ≡ ok file → said (verdictOf bytes) .number ≤ 12
+verdict-few bytes file r = go (check-file file) refl
+  where
+    go : (o : Outcome (Unit {0})) → check-file file ≡ o → said (verdictOf bytes) .number ≤ 12
+    go (ok u) c = omega (arith, ap (λ v. said v .number) (verdict-read bytes file r c), told-number (shape file))
+    go (refuse n p) c = omega (arith, ap (λ v. said v .number) (verdict-faulty bytes file n p r c), check-refuses bytes file n p r c .1)

@@ -1,12 +1,12 @@
 -- Reading a word back from a store: with fuel for each cell of its tree it gives the tree's value. Assumes nothing.
 use Prim.Native.Nat.{ℕ, zero, suc, _+_, _≤_, _<_}
-use mathlib.Core.Bool.{Bool, true, false}
-use mathlib.Core.List.{List, [], _∷_, _++_}
-use mathlib.Core.Path.{_≡_, refl, sym, ap, _∙_, subst}
+use mathlib.Core.Bool.{true, false}
+use mathlib.Core.List.{List, [], _∷_}
+use mathlib.Core.Path.{_≡_, refl, ap, _∙_}
 use native.Mathlib.Omega.{arith}
 use lib.ListN.{length, getD}
 use lib.Dec.{ltb}
-use Rattle.meaning.specs.Syntax.{Sort, Mode, Constructor}
+use Rattle.meaning.specs.Syntax.{Sort, Constructor}
 use Rattle.meaning.specs.Ownership.{kind-owned}
 use Rattle.meaning.specs.Derivation.{Split, left, right, Has}
 use Rattle.meaning.specs.Plain.{Value, Values, node, empty, more}

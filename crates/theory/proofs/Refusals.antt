@@ -1,17 +1,17 @@
 -- The answers of the checker by their numbers: reading refuses by 1 to 6, and the ownership check of a file that was read by 7 to 12.
 -- Assumes nothing.
-use Prim.Native.Nat.{ℕ, zero, suc, _+_, _≤_, _<_}
+use Prim.Native.Nat.{ℕ, suc, _+_, _≤_}
 use mathlib.Core.Bool.{Bool, true, false, not, _&&_, _||_}
-use mathlib.Core.List.{List, [], _∷_, _++_, map}
+use mathlib.Core.List.{List, [], _∷_, map}
 use mathlib.Core.Option.{Option, none, some}
 use mathlib.Core.Path.{_≡_, refl, sym, ap, _∙_, subst}
 use native.Mathlib.Omega.{arith}
 use lib.ListN.{length, getD, getElem?}
 use Rattle.meaning.specs.Syntax.{Sort, Mode, Signature, Term, Branches, Constructor, File}
 use Rattle.meaning.specs.Syntax as S
-use Rattle.meaning.specs.Outcome.{Outcome, ok, refuse, require, present}
+use Rattle.meaning.specs.Outcome.{ok, refuse, require, present}
 use Rattle.meaning.specs.Reading.{read}
-use Rattle.meaning.specs.Ownership.{Kind, Slot, Slots, bind, Want, want, fits, sized, spends, take, pass, member, leftover, done, check, check-branches, check-bodies, check-file, kind-owned, kind-of, mode-owned, bound-by-OP, bound-by-LK, same-sort, no-function}
+use Rattle.meaning.specs.Ownership.{Kind, Slots, bind, Want, want, fits, sized, spends, take, pass, member, leftover, done, check, check-branches, check-bodies, check-file, kind-owned, kind-of, mode-owned, bound-by-OP, bound-by-LK, same-sort, no-function}
 use Rattle.theory.proofs.ReadTold.{Told, follow, Always, Fits, All-fit, Bodies-fit, Shaped, read-told}
 
 -- the ownership check

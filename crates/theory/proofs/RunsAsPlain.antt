@@ -1,28 +1,26 @@
 -- For an accepted file and a start that is not refused the run's answer is the plain evaluation's, for every budget: number, value as a
 -- tree, steps, place and frames. Assumes nothing.
-use Prim.Native.Nat.{ℕ, zero, suc, _+_, _*_, _≤_, _<_, max}
+use Prim.Native.Nat.{ℕ, zero, suc, _+_, max}
 use mathlib.Core.Bool.{Bool, true, false}
 use mathlib.Core.List.{List, [], _∷_, _++_, map}
 use mathlib.Core.Option.{Option, none, some}
-use mathlib.Core.Path.{_≡_, refl, sym, ap, _∙_, subst}
-use mathlib.Core.Logic.{_⊎_, inl, inr, ⊎-elim, _↔_}
+use mathlib.Core.Path.{_≡_, refl, ap, _∙_}
+use mathlib.Core.Logic.{_⊎_, inl, inr}
 use native.Mathlib.Omega.{arith}
-use lib.ListN.{length, getD}
+use lib.ListN.{getD}
 use lib.Dec.{eqb}
-use Rattle.meaning.specs.Syntax.{Sort, Mode, Signature, Term, Branches, Constructor, File}
+use Rattle.meaning.specs.Syntax.{Term, Branches, Constructor, File}
 use Rattle.meaning.specs.Syntax.{GV, AT, MK, CL, TL, OP, LK, NU, AR, IF}
-use Rattle.meaning.specs.Outcome.{Outcome, ok}
-use Rattle.meaning.specs.Ownership.{bind, kind-of}
-use Rattle.meaning.specs.Derivation.{Has}
-use Rattle.meaning.specs.Plain.{Value, Values, number, node, credit, Run, value, stop, eval, evaluate, branch, place-of}
+use Rattle.meaning.specs.Outcome.{ok}
+use Rattle.meaning.specs.Plain.{Value, Values, number, node, credit, Run, value, stop, eval, evaluate, branch}
 use Rattle.meaning.specs.Plain as P
-use Rattle.meaning.specs.Machine.{Store, Answer, answers, run, body-of, function-of, word}
-use Rattle.meaning.specs.Decode.{plain, plain-args, mode-of, as-plain}
-use Rattle.meaning.specs.Start.{Reached, chosen, is-owned, start, answer-to, begin, budget-of}
+use Rattle.meaning.specs.Machine.{Store, Answer, answers, run, function-of}
+use Rattle.meaning.specs.Decode.{plain-args, as-plain}
+use Rattle.meaning.specs.Start.{Reached, chosen, is-owned, start, answer-to, budget-of}
 use Rattle.meaning.specs.Verdict.{accepted}
 use Rattle.meaning.specs.InPlace.{begins}
 use Rattle.theory.proofs.Wellread.{accepted-well}
-use Rattle.theory.proofs.Sim.{Ready, Accepted, Ends, runs-as-evaluated}
+use Rattle.theory.proofs.Sim.{Ends, runs-as-evaluated}
 use Rattle.theory.proofs.StartWords.{reached-more}
 use Rattle.theory.proofs.StartExact.{is-tree, mixed}
 use Rattle.theory.proofs.Started.{Started, accepted-started}

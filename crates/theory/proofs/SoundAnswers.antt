@@ -1,16 +1,17 @@
 -- The machine's answer to a call, field by field: its number is in the table, and the fields with no meaning are 0. Assumes nothing.
-use Prim.Native.Nat.{ℕ, zero, suc, _+_, _≤_, _<_}
-use mathlib.Core.List.{List, [], _∷_}
-use mathlib.Core.Path.{_≡_, refl, sym, ap, _∙_, subst}
+use Prim.Native.Nat.{ℕ, _≤_}
+use mathlib.Core.List.{List}
+use mathlib.Core.Path.{_≡_, refl, ap, _∙_}
 use mathlib.Core.Logic.{_⊎_, inl, inr, ⊎-elim}
 use native.Mathlib.Omega.{arith}
 use lib.ListN.{length}
 use Rattle.meaning.specs.Syntax.{File}
-use Rattle.meaning.specs.Outcome.{Outcome, ok, refuse}
+use Rattle.meaning.specs.Outcome.{ok, refuse}
 use Rattle.meaning.specs.Machine.{Store, Answer}
 use Rattle.meaning.specs.Start.{start, answer-to, budget-of}
+use Rattle.meaning.specs.Verdict.{accepted}
 use Rattle.meaning.specs.InPlace.{after, begins, Ended}
-use Rattle.theory.proofs.Answered.{stuck-so}
+use Rattle.theory.proofs.Answered.{stuck-so, answer-ended}
 use Rattle.theory.proofs.StartCounting.{same?}
 use Rattle.theory.proofs.StartExact.{Unfit, fit, start-ok, start-22, start-23, start-24}
 use Rattle.theory.proofs.EveryCall.{Call, every-call}
@@ -94,3 +95,19 @@ module _ (bytes args : List ℕ) (store : Store) (work : List ℕ) (budget : ℕ
 
   pub sound-answer : Sound-answer (answer-to bytes (length work) args store budget)
   sound-answer = call-sound (every-call bytes (length work) args store budget)
+
+  -- an answer that is no refusal
+  pub begun : {a : Answer} → Call bytes (length work) args store budget a → (Refusal (a .answer) → ⊥)
+      → (file : File) × (accepted bytes ≡ ok file) × (start file (length work) args store ≡ ok tt)
+  begun (Call.refused-file e l m) n = absurd (n (l, omega arith))
+  begun (Call.refused-start file e s l m) n = absurd (n (omega arith, m))
+  begun (Call.runs file e s d) n = (file, e, s)
+
+  ended-unrefused : {file : File} {a : Answer} → Ended file (budget-of budget) (begins file args store) 0 1 a → Refusal (a .answer) → ⊥
+  ended-unrefused (Ended.budget o) r = omega (arith, r .1)
+  ended-unrefused (Ended.value m l o f) r = omega (arith, r .0)
+  ended-unrefused {file} (Ended.stop {a = n} {p} m l o f) r =
+      elim (stuck-so file (after file m (begins file args store)) n p f) [ inl e ↦ omega (arith, r .1) | inr e ↦ omega (arith, r .1) ]
+
+  pub ran : (file : File) → accepted bytes ≡ ok file → start file (length work) args store ≡ ok tt → Refusal (answer-to bytes (length work) args store budget .answer) → ⊥
+  ran file e s r = ended-unrefused (answer-ended bytes file (length work) args store budget e s) r

@@ -1,15 +1,15 @@
 -- The three walks of the start over a store: the cells that they queue, the namings that they meet, and the order in which no cell is held
 -- back. Assumes nothing.
-use Prim.Native.Nat.{ℕ, zero, suc, _+_, _-_, _*_, _≤_, _<_}
-use mathlib.Core.Path.{_≡_, refl, sym, ap, _∙_, subst}
-use mathlib.Core.Logic.{_⊎_, inl, inr, ⊎-elim}
+use Prim.Native.Nat.{ℕ, _+_, _-_, _≤_, _<_}
+use mathlib.Core.Path.{_≡_, refl, subst}
+use mathlib.Core.Logic.{_⊎_, ⊎-elim}
 use mathlib.Core.List.{List, [], _∷_, _++_}
-use mathlib.Core.Bool.{Bool, true, false}
+use mathlib.Core.Bool.{true, false}
 use native.Mathlib.Omega.{arith}
 use lib.ListN.{length}
 use Rattle.meaning.specs.Syntax.{Constructor}
 use Rattle.meaning.specs.Machine.{Store}
-use Rattle.meaning.specs.Walk.{count, Walk, walk, visit, visits, drain}
+use Rattle.meaning.specs.Walk.{count, Walk, walk, visit, visits}
 use Rattle.meaning.specs.Start.{In, word-ok, inside, named, kids, Reached, Looped, owned-walk, all-walk, free-walk}
 use Rattle.theory.proofs.Reached.{count-append}
 use Rattle.theory.proofs.StartCounting.{bool?, total, total-ext}

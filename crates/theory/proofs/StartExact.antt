@@ -1,14 +1,13 @@
 -- The answer at the start, 20 to 24 or none, is the first of them whose statement holds, exactly. Assumes nothing.
-use Prim.Native.Nat.{ℕ, zero, suc, _+_, _-_, _*_, _%_, _≤_, _<_}
-use mathlib.Core.Path.{_≡_, refl, sym, ap, _∙_, subst}
+use Prim.Native.Nat.{ℕ, _+_, _-_, _%_, _≤_, _<_}
+use mathlib.Core.Path.{_≡_, refl, sym, ap, _∙_}
 use mathlib.Core.Logic.{_⊎_, inl, inr, ⊎-elim, _↔_}
-use mathlib.Core.List.{List, [], _∷_, _++_}
-use mathlib.Core.Bool.{Bool, true, false, not, _&&_, _||_, true≢false, false≢true}
-use mathlib.Core.Option.{Option, none, some}
+use mathlib.Core.List.{List, [], _∷_}
+use mathlib.Core.Bool.{Bool, true, false, not, _||_, true≢false}
 use native.Mathlib.Omega.{arith}
 use lib.Dec.{eqb, ltb}
-use lib.ListN.{length, getElem?}
-use borrow.Author.Tests.{eqb-true, eqb-false, eq-eqb, ne-eqb, ltb-true, ltb-false, lt-ltb, le-ltb, not-true, not-false}
+use lib.ListN.{length}
+use borrow.Author.Tests.{eqb-true, eqb-false, ltb-true, ltb-false, not-true, not-false}
 use Rattle.meaning.specs.Syntax.{Mode, Constructor, File}
 use Rattle.meaning.specs.Outcome.{Outcome, ok, refuse}
 use Rattle.meaning.specs.Machine.{Store, function-of}
@@ -18,7 +17,7 @@ use Rattle.theory.proofs.Reached.{count-cons}
 use Rattle.theory.proofs.StartCounting.{same?, le?}
 use Rattle.theory.proofs.StartWords.{or-cases, or-neither, any-true, any-false, reached-fine}
 use Rattle.theory.proofs.StartCells.{namings, all-done, cells-in, cells-out, owned-in, owned-out, met-all, loop-is, loop-not}
-use Rattle.theory.proofs.StartPlaces.{place-in, in-place, two-places, two-namings}
+use Rattle.theory.proofs.StartPlaces.{some-place, at-some-place, two-places, two-namings}
 
 -- the tree arguments, in the file's order, are the owned and the lent ones
 abbrev pub is-tree : Mode → Bool
@@ -49,7 +48,7 @@ module _ (cs : List Constructor) (store : Store) (numbers owned lent trees : Lis
   test-24 = ltb (length (free-walk cs store owned lent .queue)) (length cells)
 
   bad-argument : (w : ℕ) → In w trees → bad w ≡ true → Malformed cs store numbers trees
-  bad-argument w i e = let p = place-in w trees i in inr (Place.argument (p .0), w, Place-holds.argument (p .1), not-true (word-ok cs store w) e)
+  bad-argument w i e = let p = some-place w trees i in inr (Place.argument (p .0), w, Place-holds.argument (p .1), not-true (word-ok cs store w) e)
 
   malformed-there : test-22 ≡ true → Malformed cs store numbers trees
   malformed-there e =
@@ -66,7 +65,7 @@ module _ (cs : List Constructor) (store : Store) (numbers owned lent trees : Lis
       (λ (f : any (λ c. any bad (inside cs store c)) cells ≡ true).
       let r = any-true (λ c. any bad (inside cs store c)) cells f in
       let s = any-true bad (inside cs store (r .0)) (r .2) in
-      let p = place-in (s .0) (inside cs store (r .0)) (s .1) in
+      let p = some-place (s .0) (inside cs store (r .0)) (s .1) in
       inr (Place.field (r .0) (p .0), s .0, Place-holds.field (cells-out cs store owned lent trees mixture fits (r .0) (r .1)) (p .1), not-true (word-ok cs store (s .0)) (s .2)))
       (or-cases (any bad lent) (any (λ c. any bad (inside cs store c)) cells) g))
       (or-cases (any bad owned) (any bad lent || any (λ c. any bad (inside cs store c)) cells) h))
@@ -80,10 +79,10 @@ module _ (cs : List Constructor) (store : Store) (numbers owned lent trees : Lis
   place-fine t (Place-holds.argument {i} {w} e) =
       ⊎-elim
       (λ (o : 1 ≤ count w owned). any-false bad owned (t .0) w o)
-      (λ (o : count w owned < 1). any-false bad lent (t .1) w (omega (arith, mixture w, in-place w trees i e)))
+      (λ (o : count w owned < 1). any-false bad lent (t .1) w (omega (arith, mixture w, at-some-place w trees i e)))
       (le? 1 (count w owned))
   place-fine t (Place-holds.field {b} {i} {w} r e) =
-      any-false bad (inside cs store b) (any-false (λ c. any bad (inside cs store c)) cells (t .2) b (cells-in cs store owned lent trees mixture fits r)) w (in-place w (inside cs store b) i e)
+      any-false bad (inside cs store b) (any-false (λ c. any bad (inside cs store c)) cells (t .2) b (cells-in cs store owned lent trees mixture fits r)) w (at-some-place w (inside cs store b) i e)
 
   malformed-not : test-22 ≡ false → Malformed cs store numbers trees → ⊥
   malformed-not e m =
@@ -101,8 +100,12 @@ module _ (cs : List Constructor) (store : Store) (numbers owned lent trees : Lis
       ⊎-elim
       (λ (h : namings cs store trees cells c ≤ 1). h)
       (λ (h : 1 < namings cs store trees cells c).
-      absurd (n (c, r, two-places cs store trees cells (all-done cs store owned lent trees mixture fits .kept .once)
-      (λ x i. cells-in cs store owned lent trees mixture fits i) (cells-out cs store owned lent trees mixture fits) c (omega arith))))
+      absurd (n (
+        c,
+        r,
+        two-places cs store trees cells (all-done cs store owned lent trees mixture fits .kept .once)
+            (λ x i. cells-in cs store owned lent trees mixture fits i) (cells-out cs store owned lent trees mixture fits) c (omega arith),
+      )))
       (le? (namings cs store trees cells c) 1)
 
   shared-there : test-23 ≡ true → Shared cs store owned trees
@@ -110,9 +113,12 @@ module _ (cs : List Constructor) (store : Store) (numbers owned lent trees : Lis
       let r = any-true (λ c. ltb 1 (count c (all-walk cs store owned lent .seen))) (owned-walk cs store owned .queue) e in
       let o = owned-out cs store owned lent trees mixture fits (r .0) (r .1) in
       let many : 2 ≤ namings cs store trees cells (r .0) =
-      omega (arith, ltb-true 1 (count (r .0) (all-walk cs store owned lent .seen)) (r .2), met-all cs store owned lent trees mixture fits (r .0) (reached-fine cs store o)) in
-      (r .0, o, two-places cs store trees cells (all-done cs store owned lent trees mixture fits .kept .once)
-      (λ x i. cells-in cs store owned lent trees mixture fits i) (cells-out cs store owned lent trees mixture fits) (r .0) many)
+      omega (arith, ltb-true 1 (count (r .0) (all-walk cs store owned lent .seen)) (r .2), met-all cs store owned lent trees mixture fits (r .0) (reached-fine cs store o)) in (
+        r .0,
+        o,
+        two-places cs store trees cells (all-done cs store owned lent trees mixture fits .kept .once)
+            (λ x i. cells-in cs store owned lent trees mixture fits i) (cells-out cs store owned lent trees mixture fits) (r .0) many,
+      )
 
   shared-not : test-23 ≡ false → Shared cs store owned trees → ⊥
   shared-not e s =
@@ -124,7 +130,7 @@ module _ (cs : List Constructor) (store : Store) (numbers owned lent trees : Lis
         ltb-false 1 (count c (all-walk cs store owned lent .seen)) t,
         met-all cs store owned lent trees mixture fits c (reached-fine cs store (s .1)),
         two-namings cs store trees cells (all-done cs store owned lent trees mixture fits .kept .once)
-        (λ x i. cells-in cs store owned lent trees mixture fits i) (cells-out cs store owned lent trees mixture fits) c (s .2 .0) (s .2 .1) (s .2 .2) (s .2 .3) (s .2 .4),
+            (λ x i. cells-in cs store owned lent trees mixture fits i) (cells-out cs store owned lent trees mixture fits) c (s .2 .0) (s .2 .1) (s .2 .2) (s .2 .3) (s .2 .4),
       )
 
   pub looped-there : test-24 ≡ true → Looped cs store trees

@@ -1,9 +1,9 @@
 -- Removal in topological order leaves nothing exactly where no cell reaches itself. Assumes nothing.
 use Prim.Native.Nat.{ℕ, zero, suc, _+_, _≤_, _<_}
 use mathlib.Core.Path.{_≡_, refl, sym, ap, _∙_, subst}
-use mathlib.Core.Logic.{_⊎_, inl, inr, ⊎-elim}
-use mathlib.Core.List.{List, [], _∷_, _++_, append-assoc, append-nil}
-use mathlib.Core.Bool.{Bool, true, false, true≢false}
+use mathlib.Core.Logic.{_⊎_, ⊎-elim}
+use mathlib.Core.List.{List, [], _∷_, _++_}
+use mathlib.Core.Bool.{true, false, true≢false}
 use native.Mathlib.Omega.{arith}
 use lib.Dec.{eqb, leb}
 use lib.ListN.{length, getD, take, length-append, length-take, List·getD-append}
@@ -11,10 +11,10 @@ use lib.Seq.{take-append-le, take-suc, take-all, getD-at, take-at, getD-take}
 use borrow.Author.Tests.{le-leb, lt-leb, leb-true, leb-false}
 use Rattle.meaning.specs.Choice.{pick}
 use Rattle.meaning.specs.Walk.{count, Walk, walk, visit, visits, drain}
-use Rattle.theory.proofs.StartGraph.{Found, root, next, Way, single, more}
-use Rattle.theory.proofs.Reached.{one-if, count-cons, count-append}
-use Rattle.theory.proofs.StartCounting.{total, same?, le?, one-same, one-other, total-append, total-cons, total-nil, total-le, total-ge, length-le, few, count-take, count-at, place-of, find}
-use Rattle.theory.proofs.StartWalk.{Kept, Drained, drain-step, visit-kept, visits-kept, visits-seen, visit-grows, visits-grows, taken, passed, met-count}
+use Rattle.theory.proofs.StartGraph.{Way, single, more}
+use Rattle.theory.proofs.Reached.{one-if, count-cons}
+use Rattle.theory.proofs.StartCounting.{total, same?, le?, one-same, one-other, total-append, total-cons, total-nil, total-le, total-ge, length-le, count-take, place-of, find}
+use Rattle.theory.proofs.StartWalk.{Kept, Drained, drain-step, visit-kept, visit-grows, taken, passed, met-count}
 use Rattle.theory.proofs.StartReached.{Done}
 
 -- each cell of q stands after every cell that names it

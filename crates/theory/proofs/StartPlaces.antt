@@ -1,32 +1,32 @@
 -- A cell is named at least twice exactly where two different places name it. Assumes nothing.
 use Prim.Native.Nat.{ℕ, zero, suc, _+_, _≤_, _<_}
-use mathlib.Core.Path.{_≡_, refl, sym, ap, _∙_, subst}
+use mathlib.Core.Path.{_≡_, refl, sym, ap, subst}
 use mathlib.Core.Logic.{_⊎_, inl, inr, ⊎-elim}
 use mathlib.Core.List.{List, [], _∷_}
-use mathlib.Core.Option.{Option, none, some, Option·none-ne-some}
+use mathlib.Core.Option.{some, Option·none-ne-some}
 use native.Mathlib.Omega.{arith}
-use lib.ListN.{length, getElem?}
+use lib.ListN.{getElem?}
 use Rattle.meaning.specs.Syntax.{Constructor}
 use Rattle.meaning.specs.Machine.{Store}
 use Rattle.meaning.specs.Walk.{count}
 use Rattle.meaning.specs.Start.{In, inside, Reached, Place, Place-holds}
-use Rattle.theory.proofs.Reached.{one-if, count-cons}
+use Rattle.theory.proofs.Reached.{count-cons}
 use Rattle.theory.proofs.StartCounting.{same?, le?, one-same, one-other, total, total-nil, total-cons, total-ge, total-both}
 use Rattle.theory.proofs.StartCells.{namings}
 
 -- a list has a number where it counts
-pub place-in : (x : ℕ) (l : List ℕ) → In x l → (i : ℕ) × (getElem? l i ≡ some x)
-place-in x [] h = absurd (omega arith)
-place-in x (y ∷ l) h =
+pub some-place : (x : ℕ) (l : List ℕ) → In x l → (i : ℕ) × (getElem? l i ≡ some x)
+some-place x [] h = absurd (omega arith)
+some-place x (y ∷ l) h =
     ⊎-elim
     (λ (e : x ≡ y). (0, ap some (sym e)))
-    (λ (e : x ≡ y → ⊥). let r = place-in x l (omega (arith, count-cons x y l, one-other x y e)) in (suc (r .0), r .1))
+    (λ (e : x ≡ y → ⊥). let r = some-place x l (omega (arith, count-cons x y l, one-other x y e)) in (suc (r .0), r .1))
     (same? x y)
 
-pub in-place : (x : ℕ) (l : List ℕ) (i : ℕ) → getElem? l i ≡ some x → In x l
-in-place x [] i e = absurd (Option·none-ne-some x e)
-in-place x (y ∷ l) zero e = omega (arith, count-cons x y l, one-same x y cc)
-in-place x (y ∷ l) (suc i) e = omega (arith, count-cons x y l, in-place x l i e)
+pub at-some-place : (x : ℕ) (l : List ℕ) (i : ℕ) → getElem? l i ≡ some x → In x l
+at-some-place x [] i e = absurd (Option·none-ne-some x e)
+at-some-place x (y ∷ l) zero e = omega (arith, count-cons x y l, one-same x y cc)
+at-some-place x (y ∷ l) (suc i) e = omega (arith, count-cons x y l, at-some-place x l i e)
 
 -- two places of a list
 abbrev Twice : ℕ → List ℕ → Type 0
@@ -36,7 +36,7 @@ twice : (x : ℕ) (l : List ℕ) → 2 ≤ count x l → Twice x l
 twice x [] h = absurd (omega arith)
 twice x (y ∷ l) h =
     ⊎-elim
-    (λ (e : x ≡ y). let r = place-in x l (omega (arith, count-cons x y l, one-same x y e)) in (0, suc (r .0), (λ q. omega arith), ap some (sym e), r .1))
+    (λ (e : x ≡ y). let r = some-place x l (omega (arith, count-cons x y l, one-same x y e)) in (0, suc (r .0), (λ q. omega arith), ap some (sym e), r .1))
     (λ (e : x ≡ y → ⊥).
     let r = twice x l (omega (arith, count-cons x y l, one-other x y e)) in
     (suc (r .0), suc (r .1), (λ q. r .2 (omega arith)), r .3, r .4))
@@ -45,8 +45,8 @@ twice x (y ∷ l) h =
 count-twice : (x : ℕ) (l : List ℕ) (i j : ℕ) → (i ≡ j → ⊥) → getElem? l i ≡ some x → getElem? l j ≡ some x → 2 ≤ count x l
 count-twice x [] i j n p q = absurd (Option·none-ne-some x p)
 count-twice x (y ∷ l) zero zero n p q = absurd (n refl)
-count-twice x (y ∷ l) zero (suc j) n p q = omega (arith, count-cons x y l, one-same x y cc, in-place x l j q)
-count-twice x (y ∷ l) (suc i) zero n p q = omega (arith, count-cons x y l, one-same x y cc, in-place x l i p)
+count-twice x (y ∷ l) zero (suc j) n p q = omega (arith, count-cons x y l, one-same x y cc, at-some-place x l j q)
+count-twice x (y ∷ l) (suc i) zero n p q = omega (arith, count-cons x y l, one-same x y cc, at-some-place x l i p)
 count-twice x (y ∷ l) (suc i) (suc j) n p q = omega (arith, count-cons x y l, count-twice x l i j (λ e. n (ap suc e)) p q)
 
 -- a sum that counts: one member, or two, or one twice
@@ -114,7 +114,7 @@ module _ (cs : List Constructor) (store : Store) (trees cells : List ℕ) (once 
 
   -- a field that names the cell
   field-at : (c b : ℕ) → In b cells → 1 ≤ part c b → (i : ℕ) × Place-holds cs store trees (Place.field b i) (65536 + c)
-  field-at c b i h = let r = place-in (65536 + c) (inside cs store b) h in (r .0, Place-holds.field (outs b i) (r .1))
+  field-at c b i h = let r = some-place (65536 + c) (inside cs store b) h in (r .0, Place-holds.field (outs b i) (r .1))
 
   fields-twice : (c : ℕ) → Two (part c) cells → Named-twice c
   fields-twice c (inl r) =
@@ -135,7 +135,7 @@ module _ (cs : List Constructor) (store : Store) (trees cells : List ℕ) (once 
       (λ (p : count (65536 + c) trees < 2).
       ⊎-elim
       (λ (q : 1 ≤ count (65536 + c) trees).
-      let a = place-in (65536 + c) trees q in
+      let a = some-place (65536 + c) trees q in
       let b = some-one (part c) cells (omega arith) in
       let x = field-at c (b .0) (b .1) (b .2) in
       (Place.argument (a .0), Place.field (b .0) (x .0), (λ e. (let z : _≡_ {A = ℕ} 1 0 = ap is-argument e in omega arith)), Place-holds.argument (a .1), x .1))
@@ -148,14 +148,14 @@ module _ (cs : List Constructor) (store : Store) (trees cells : List ℕ) (once 
   two-namings c (Place.argument i) (Place.argument j) n (Place-holds.argument e) (Place-holds.argument f) =
       omega (arith, count-twice (65536 + c) trees i j (λ q. n (ap Place.argument q)) e f)
   two-namings c (Place.argument i) (Place.field b j) n (Place-holds.argument e) (Place-holds.field r f) =
-      omega (arith, in-place (65536 + c) trees i e, in-place (65536 + c) (inside cs store b) j f, total-ge (part c) b cells (ins b r))
+      omega (arith, at-some-place (65536 + c) trees i e, at-some-place (65536 + c) (inside cs store b) j f, total-ge (part c) b cells (ins b r))
   two-namings c (Place.field b j) (Place.argument i) n (Place-holds.field r f) (Place-holds.argument e) =
-      omega (arith, in-place (65536 + c) trees i e, in-place (65536 + c) (inside cs store b) j f, total-ge (part c) b cells (ins b r))
+      omega (arith, at-some-place (65536 + c) trees i e, at-some-place (65536 + c) (inside cs store b) j f, total-ge (part c) b cells (ins b r))
   two-namings c (Place.field b i) (Place.field d j) n (Place-holds.field r e) (Place-holds.field s f) =
       ⊎-elim
       (λ (q : b ≡ d).
       let g : getElem? (inside cs store b) j ≡ some (65536 + c) = subst (λ x. getElem? (inside cs store x) j ≡ some (65536 + c)) (sym q) f in
       omega (arith, count-twice (65536 + c) (inside cs store b) i j (λ z. n (λ k. Place.field (q k) (z k))) e g, total-ge (part c) b cells (ins b r)))
       (λ (q : b ≡ d → ⊥).
-      omega (arith, in-place (65536 + c) (inside cs store b) i e, in-place (65536 + c) (inside cs store d) j f, total-both (part c) b d cells q (ins b r) (ins d s)))
+      omega (arith, at-some-place (65536 + c) (inside cs store b) i e, at-some-place (65536 + c) (inside cs store d) j f, total-both (part c) b d cells q (ins b r) (ins d s)))
       (same? b d)

@@ -1,19 +1,17 @@
 -- A walk that is drained has reached what can be reached, and nothing else. Assumes nothing.
 use Prim.Native.Nat.{ℕ, zero, suc, _+_, _≤_, _<_}
-use mathlib.Core.Path.{_≡_, refl, sym, ap, _∙_, subst}
-use mathlib.Core.Logic.{_⊎_, inl, inr, ⊎-elim}
-use mathlib.Core.List.{List, [], _∷_, _++_, append-assoc, append-nil}
-use mathlib.Core.Bool.{Bool, true, false}
+use mathlib.Core.Path.{_≡_, sym, ap, _∙_}
+use mathlib.Core.Logic.{_⊎_, ⊎-elim}
+use mathlib.Core.List.{List, [], _++_, append-assoc, append-nil}
 use native.Mathlib.Omega.{arith}
-use lib.Dec.{eqb, leb}
-use lib.ListN.{length, getD, take, length-append, List·getD-append}
-use lib.Seq.{take-append-le, take-suc, take-all}
+use lib.ListN.{length, getD, take, length-append}
+use lib.Seq.{take-append-le, take-all}
 use borrow.Author.Tests.{le-leb, lt-leb}
 use Rattle.meaning.specs.Choice.{pick}
-use Rattle.meaning.specs.Walk.{count, Walk, walk, visit, visits, drain}
-use Rattle.theory.proofs.StartGraph.{Found, root, next, Way, single, more}
-use Rattle.theory.proofs.Reached.{one-if, count-cons, count-append}
-use Rattle.theory.proofs.StartCounting.{total, same?, le?, one-same, one-other, total-append, total-cons, total-nil, total-le, total-ge, few, count-take, count-at, place-of}
+use Rattle.meaning.specs.Walk.{count, Walk, walk, visits, drain}
+use Rattle.theory.proofs.StartGraph.{Found, root, next}
+use Rattle.theory.proofs.Reached.{count-append}
+use Rattle.theory.proofs.StartCounting.{total, le?, total-nil, total-ge, few, count-at}
 use Rattle.theory.proofs.StartWalk.{Kept, Drained, drain-step, visits-kept, visits-seen, visits-grows}
 
 pub found-more : (kids : ℕ → List ℕ) (r m : List ℕ) → ((y : ℕ) → 1 ≤ count y r → 1 ≤ count y m) → {x : ℕ} → Found kids r x → Found kids m x

@@ -1,34 +1,27 @@
 -- Arguments whose trees have grown match the slots of function 0, and a cell that is reached from an owned one is met once in all.
 -- Assumes nothing.
-use Prim.Native.Nat.{ℕ, zero, suc, _+_, _-_, _*_, _%_, _≤_, _<_}
-use mathlib.Core.Path.{_≡_, refl, sym, ap, _∙_, subst}
-use mathlib.Core.Logic.{_⊎_, inl, inr, ⊎-elim, _↔_}
+use Prim.Native.Nat.{ℕ, suc, _+_, _-_, _≤_, _<_}
+use mathlib.Core.Path.{_≡_, refl, sym, ap, subst}
+use mathlib.Core.Logic.{_⊎_, inl, inr, ⊎-elim}
 use mathlib.Core.List.{List, [], _∷_, _++_, map}
-use mathlib.Core.Bool.{Bool, true, false}
 use native.Mathlib.Omega.{arith}
-use lib.ListN.{length, getD, take}
-use lib.Seq.{take-nil}
-use Rattle.meaning.specs.Syntax.{Sort, Mode, Signature, Constructor, File}
-use Rattle.meaning.specs.Outcome.{Outcome, ok}
-use Rattle.meaning.specs.Ownership.{Kind, Slots, fresh, bind, kind-of}
-use Rattle.meaning.specs.Derivation.{Split, Has}
-use Rattle.meaning.specs.Plain.{Value}
-use Rattle.meaning.specs.Machine.{Held, Store, cell, function-of}
+use lib.ListN.{length}
+use Rattle.meaning.specs.Syntax.{Mode, Constructor}
+use Rattle.meaning.specs.Ownership.{fresh, kind-of}
+use Rattle.meaning.specs.Derivation.{Has}
+use Rattle.meaning.specs.Machine.{Store, cell}
 use Rattle.meaning.specs.Walk.{count}
-use Rattle.meaning.specs.Decode.{tree, plain-args}
-use Rattle.meaning.specs.Start.{In, fields-at, word-ok, inside, number-words, kids, Reached, from, through, Place, Place-holds, Malformed, Shared, Looped, all-walk, free-walk, chosen, is-numeric, is-owned, is-lent, start, begin}
+use Rattle.meaning.specs.Decode.{plain-args}
+use Rattle.meaning.specs.Start.{In, Reached, from, through, chosen, is-owned, is-lent, begin}
 use Rattle.theory.proofs.Splits.{all-right, has-left, has-right, has-cases}
 use Rattle.theory.proofs.Counting.{nowhere}
-use Rattle.theory.proofs.Rep.{Tree, Holds, Slot-holds, Match, next, live}
+use Rattle.theory.proofs.Rep.{Tree, Holds, Match, next, live}
 use Rattle.theory.proofs.Sim.{Once}
-use Rattle.theory.proofs.Reached.{count-cons, count-append, count-split, has-count, count-has}
-use Rattle.theory.proofs.StartCounting.{same?, le?, bool?, one-same, total, total-nil, total-append, total-le, total-ge, total-both, few}
-use Rattle.theory.proofs.StartWords.{fine-at, reached-fine, reached-more}
-use Rattle.theory.proofs.StartPeel.{all-out, closed, step-back}
-use Rattle.theory.proofs.StartCells.{namings, all-done, free-done, free-ordered, cells-in, cells-out, loop-is}
-use Rattle.theory.proofs.StartPlaces.{place-in}
-use Rattle.theory.proofs.StartTrees.{part, Grown, grow, beside, word-of}
-use Rattle.theory.proofs.StartExact.{is-tree, mixed, named-once, fit, counted, start-ok}
+use Rattle.theory.proofs.Reached.{count-cons, count-append, count-split, has-count}
+use Rattle.theory.proofs.StartCounting.{same?, le?, one-same, total, total-nil, total-append, total-le, total-ge, total-both}
+use Rattle.theory.proofs.StartCells.{namings}
+use Rattle.theory.proofs.StartTrees.{part, Grown, beside}
+use Rattle.theory.proofs.StartExact.{is-tree, named-once}
 
 pub once-by : (F : List ℕ) → ((c : ℕ) → count c F ≤ 1) → Once F
 once-by F h c F′ sp m = omega (arith, h c, count-split c sp, count-cons c c [], one-same c c refl, has-count m)

@@ -1,16 +1,16 @@
 -- Where the start is not refused, every tree word stands for a finite tree: its value, and its cells as often as they are met. Assumes nothing.
-use Prim.Native.Nat.{ℕ, zero, suc, _+_, _-_, _*_, _%_, _≤_, _<_}
+use Prim.Native.Nat.{ℕ, zero, suc, _+_, _-_, _%_, _≤_, _<_}
 use mathlib.Core.Path.{_≡_, refl, sym, ap, _∙_, subst}
 use mathlib.Core.Logic.{_⊎_, inl, inr, ⊎-elim}
 use mathlib.Core.List.{List, [], _∷_, _++_}
-use mathlib.Core.Bool.{Bool, true, false}
+use mathlib.Core.Bool.{true}
 use native.Mathlib.Omega.{arith}
-use lib.Dec.{eqb, ltb}
+use lib.Dec.{eqb}
 use lib.ListN.{length, getD, take}
 use lib.Seq.{take-all, take-take}
 use borrow.Author.Tests.{lt-ltb, le-ltb}
 use Rattle.meaning.specs.Syntax.{Sort, Constructor}
-use Rattle.meaning.specs.Derivation.{Split, left, right, Has, here, there}
+use Rattle.meaning.specs.Derivation.{Split, left, Has}
 use Rattle.meaning.specs.Plain.{Value, Values, node, empty, more}
 use Rattle.meaning.specs.Plain as P
 use Rattle.meaning.specs.Machine.{Store, cell, word-at}
@@ -22,7 +22,7 @@ use Rattle.theory.proofs.Counting.{has-inv, nowhere}
 use Rattle.theory.proofs.Rep.{Tree, Fields}
 use Rattle.theory.proofs.Reached.{one-if, count-cons, count-append}
 use Rattle.theory.proofs.StartCounting.{same?, le?, one-same, one-other, total, total-nil, total-cons, total-append, count-take}
-use Rattle.theory.proofs.StartWords.{Fine-cell, fine-cell, atom-fields, count-fine}
+use Rattle.theory.proofs.StartWords.{fine-cell, atom-fields, count-fine}
 
 -- two lists put together, one beside the other
 pub beside : (a b : List ℕ) → Split (a ++ b) a b

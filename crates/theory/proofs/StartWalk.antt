@@ -1,18 +1,17 @@
 -- What a walk by a worklist has met and queued. Assumes nothing.
-use Prim.Native.Nat.{ℕ, zero, suc, _+_, _≤_, _<_}
-use mathlib.Core.Path.{_≡_, refl, sym, ap, _∙_, subst}
+use Prim.Native.Nat.{ℕ, suc, _+_, _≤_, _<_}
+use mathlib.Core.Path.{_≡_, refl, sym, ap, _∙_}
 use mathlib.Core.Logic.{_⊎_, inl, inr, ⊎-elim}
 use mathlib.Core.List.{List, [], _∷_, _++_, append-assoc, append-nil}
-use mathlib.Core.Bool.{Bool, true, false}
 use native.Mathlib.Omega.{arith}
-use lib.Dec.{eqb, leb}
-use lib.ListN.{length, getD, take, length-append, List·getD-append}
-use lib.Seq.{take-append-le, take-suc, take-all, getD-append-seam, take-append-seam}
-use borrow.Author.Tests.{eq-eqb, ne-eqb, le-leb, lt-leb}
+use lib.Dec.{eqb}
+use lib.ListN.{length, getD, take, length-append}
+use lib.Seq.{take-append-le, take-suc}
+use borrow.Author.Tests.{eq-eqb, ne-eqb}
 use Rattle.meaning.specs.Choice.{pick}
-use Rattle.meaning.specs.Walk.{count, Walk, walk, visit, visits, drain}
+use Rattle.meaning.specs.Walk.{count, Walk, visit, visits}
 use Rattle.theory.proofs.Reached.{one-if, count-cons, count-append}
-use Rattle.theory.proofs.StartCounting.{total, same?, le?, one-same, one-other, total-append, total-cons, total-nil, total-le, few, count-take, count-at, place-of}
+use Rattle.theory.proofs.StartCounting.{total, same?, le?, one-same, one-other, total-append, total-cons, total-nil}
 
 -- one visit
 pub taken : (t : ℕ → ℕ) (s : Walk) (c : ℕ) → 1 + count c (s .seen) ≡ t c → visit t s c .queue ≡ s .queue ++ (c ∷ [])

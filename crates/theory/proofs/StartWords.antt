@@ -1,12 +1,12 @@
 -- Words that are well formed: what they name, the cells that a list of them names, and that cells reached are cells found. Assumes nothing.
-use Prim.Native.Nat.{ℕ, zero, suc, _+_, _-_, _*_, _≤_, _<_}
+use Prim.Native.Nat.{ℕ, _+_, _-_, _*_, _≤_, _<_}
 use mathlib.Core.Path.{_≡_, refl, sym, ap, _∙_, subst}
 use mathlib.Core.Logic.{_⊎_, inl, inr, ⊎-elim}
-use mathlib.Core.List.{List, [], _∷_, _++_}
+use mathlib.Core.List.{List, [], _∷_}
 use mathlib.Core.Bool.{Bool, true, false, not, _&&_, _||_, true≢false, false≢true}
 use mathlib.Core.Option.{Option, none, some}
 use native.Mathlib.Omega.{arith}
-use lib.Dec.{eqb, ltb}
+use lib.Dec.{ltb}
 use lib.ListN.{length, getD, getElem?}
 use borrow.Author.Tests.{ltb-true, lt-ltb, le-ltb, not-true, not-false}
 use Rattle.meaning.specs.Syntax.{Sort, Constructor}
@@ -15,7 +15,7 @@ use Rattle.meaning.specs.Machine.{Store, cell, word-at}
 use Rattle.meaning.specs.Walk.{count}
 use Rattle.meaning.specs.Start.{any, holds, number-words, is-number, In, fields-at, cell-ok, word-ok, inside, named, kids, Reached, from, through}
 use Rattle.theory.proofs.Wellread.{nth}
-use Rattle.theory.proofs.Reached.{one-if, count-cons, count-append}
+use Rattle.theory.proofs.Reached.{count-cons}
 use Rattle.theory.proofs.StartCounting.{same?, le?, bool?, one-same, one-other}
 use Rattle.theory.proofs.StartGraph.{Found, root, next, Way, single, more}
 

@@ -1,20 +1,20 @@
 -- A start that is not refused has its arguments ready: they match the slots of function 0, each owned cell stands once, and the lent cells
 -- are apart. Assumes nothing.
-use Prim.Native.Nat.{ℕ, zero, suc, _+_, _-_, _*_, _%_, _≤_, _<_}
+use Prim.Native.Nat.{ℕ, suc, _+_, _-_, _*_, _%_, _≤_, _<_}
 use mathlib.Core.Path.{_≡_, refl, sym, ap, _∙_, subst}
 use mathlib.Core.Logic.{_⊎_, inl, inr, ⊎-elim, _↔_}
-use mathlib.Core.List.{List, [], _∷_, _++_, map}
-use mathlib.Core.Bool.{Bool, true, false}
+use mathlib.Core.List.{List, [], _++_, map}
+use mathlib.Core.Bool.{true, false}
 use native.Mathlib.Omega.{arith}
-use lib.ListN.{length, getD, take}
-use Rattle.meaning.specs.Syntax.{Sort, Mode, Signature, Constructor, File}
-use Rattle.meaning.specs.Outcome.{Outcome, ok}
+use lib.ListN.{length, getD}
+use Rattle.meaning.specs.Syntax.{Mode, Constructor, File}
+use Rattle.meaning.specs.Outcome.{ok}
 use Rattle.meaning.specs.Ownership.{bind, kind-of}
 use Rattle.meaning.specs.Derivation.{Has}
 use Rattle.meaning.specs.Machine.{Store, cell, function-of}
 use Rattle.meaning.specs.Walk.{count}
 use Rattle.meaning.specs.Decode.{plain-args}
-use Rattle.meaning.specs.Start.{In, fields-at, word-ok, inside, number-words, kids, named, Reached, from, through, Place, Place-holds, Malformed, Shared, Looped, all-walk, free-walk, chosen, is-numeric, is-owned, is-lent, start, begin}
+use Rattle.meaning.specs.Start.{In, fields-at, word-ok, inside, number-words, kids, named, Reached, from, through, Place, Place-holds, Malformed, Looped, all-walk, free-walk, chosen, is-numeric, is-owned, is-lent, start, begin}
 use Rattle.meaning.specs.Verdict.{accepted}
 use Rattle.theory.proofs.Splits.{has-cases}
 use Rattle.theory.proofs.Rep.{Match}
@@ -24,8 +24,8 @@ use Rattle.theory.proofs.Reached.{count-append, has-count, count-has}
 use Rattle.theory.proofs.StartCounting.{le?, bool?, total, total-append, total-ge, few}
 use Rattle.theory.proofs.StartWords.{fine-at, reached-fine, reached-more}
 use Rattle.theory.proofs.StartPeel.{all-out, closed, step-back}
-use Rattle.theory.proofs.StartCells.{namings, all-done, free-done, free-ordered, cells-in, cells-out, loop-is}
-use Rattle.theory.proofs.StartPlaces.{place-in}
+use Rattle.theory.proofs.StartCells.{all-done, free-done, free-ordered, cells-in, cells-out, loop-is}
+use Rattle.theory.proofs.StartPlaces.{some-place}
 use Rattle.theory.proofs.StartTrees.{part, Grown, grow, word-of}
 use Rattle.theory.proofs.StartExact.{is-tree, mixed, named-once, Fit, fit, counted, start-ok}
 use Rattle.theory.proofs.StartReady.{once-by, Readied, readied, met-once}
@@ -65,10 +65,10 @@ module _ (cs : List Constructor) (store : Store) (numbers owned lent trees : Lis
       ⊎-elim (λ (e : word-ok cs store w ≡ true). e) (λ (e : word-ok cs store w ≡ false). absurd (formed (inr (p, w, h, e)))) (bool? (word-ok cs store w))
 
   argument-fine : (w : ℕ) → In w trees → word-ok cs store w ≡ true
-  argument-fine w i = let p = place-in w trees i in at-place (Place-holds.argument (p .1))
+  argument-fine w i = let p = some-place w trees i in at-place (Place-holds.argument (p .1))
 
   field-fine : (b v : ℕ) → In b cells → In v (inside cs store b) → word-ok cs store v ≡ true
-  field-fine b v i j = let p = place-in v (inside cs store b) j in at-place (Place-holds.field (cells-out cs store owned lent trees mixture fits b i) (p .1))
+  field-fine b v i j = let p = some-place v (inside cs store b) j in at-place (Place-holds.field (cells-out cs store owned lent trees mixture fits b i) (p .1))
 
   small-number : (n : ℕ) → In n numbers → n < 65536
   small-number n i = ⊎-elim (λ (h : 65536 ≤ n). absurd (formed (inl (n, i, h)))) (λ (h : n < 65536). h) (le? 65536 n)
@@ -86,8 +86,11 @@ module _ (cs : List Constructor) (store : Store) (numbers owned lent trees : Lis
   short =
       let d = free-done cs store owned lent trees mixture fits in
       few (length store) order (d .kept .once)
-      (λ x i. omega (arith, in-store (cells-out cs store owned lent trees mixture fits x
-      (all-done cs store owned lent trees mixture fits .kept .ins x (omega arith) (d .kept .outs x i .0)))))
+      (λ x i. omega (
+        arith,
+        in-store (cells-out cs store owned lent trees mixture fits x
+            (all-done cs store owned lent trees mixture fits .kept .ins x (omega arith) (d .kept .outs x i .0))),
+      ))
 
   grown : (w : ℕ) → In w trees → Grown cs store (suc (length store)) w
   grown w i =
