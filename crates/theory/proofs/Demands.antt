@@ -14,7 +14,7 @@ use Rattle.meaning.specs.Verdict.{accepted}
 use Rattle.meaning.specs.Plain.{Value, value, evaluate}
 use Rattle.meaning.specs.Machine.{Store, Answer, function-of}
 use Rattle.meaning.specs.Decode.{plain, plain-args, mode-of}
-use Rattle.meaning.specs.Start.{start, answer-to, budget-of}
+use Rattle.meaning.specs.Start.{In, Reached, chosen, is-owned, start, answer-to, budget-of}
 use Rattle.meaning.specs.InPlace.{after, height, In-place, value-word, begins, Runs-in-place}
 use Rattle.meaning.specs.Answers.{said, verdictOf, number, wiped, answered, runOf, Ended}
 use Rattle.theory.proofs.Answered.{answer-ended, answer-store, answer-few}
@@ -22,6 +22,7 @@ use Rattle.theory.proofs.Flat.{flat-answer}
 use Rattle.theory.proofs.EveryCall.{every-call}
 use Rattle.theory.proofs.Judged.{unread, Judged, judged, verdict-few, flat-shape}
 use Rattle.theory.proofs.GivesValue.{value-exactly, ended-steps, never-deeper}
+use Rattle.theory.proofs.StartCellsReached.{start-cells}
 use Rattle.theory.proofs.RunsAsPlain.{runs-as-plain}
 use Rattle.theory.proofs.InPlaceRun.{starts-in-place, value-in-place}
 use Rattle.theory.proofs.Ends.{number-end, plainly, plainly-is, left-kept, left-wiped}
@@ -111,6 +112,8 @@ demand-2 bytes =
 -- changed. A flat file of depth D never has more than D frames, so it never stops for want of one."
 pub record Stays-in-place (bytes : List ℕ) (file : File) (args : List ℕ) (store : Store) (work : List ℕ) : Type 0 where
   pub in-place : Runs-in-place file args store
+  -- "the cells reached from the owned arguments at the start"
+  pub begins-with : (c : ℕ) → In c (in-place .start) ↔ Reached (file .constructors) store (chosen is-owned (function-of file 0 .parameters) args) c
   -- each budget leaves the store of the state after so many steps
   pub leaves : (budget : ℕ) → runOf bytes args store work budget .store ≡ after file (budget-of budget) (begins file args store) .store
   pub at-end : (budget : ℕ) → number (runOf bytes args store work budget .answer .end) ≡ 0
@@ -126,6 +129,7 @@ unfolding runOf
 demand-3 bytes file e args store work s =
     record {
       in-place = starts-in-place bytes file e (length work) args store s;
+      begins-with = start-cells file (length work) args store s (starts-in-place bytes file e (length work) args store s);
       leaves = λ budget. answer-store bytes file (length work) args store budget e s;
       at-end = λ budget q. value-in-place bytes file e (length work) args store s budget (sym (number-end (answer-to bytes (length work) args store budget .answer)) ∙ q);
       shallow = λ D R v.

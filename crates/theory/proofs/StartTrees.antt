@@ -33,7 +33,7 @@ beside (x ∷ a) b = left (beside a b)
 pub word-of : (w : ℕ) → 65536 ≤ w → 65536 + cell w ≡ w
 word-of w h = omega arith
 
-named-one : (x w : ℕ) → 65536 ≤ w → one-if (eqb (65536 + x) w) ≡ one-if (eqb x (cell w))
+pub named-one : (x w : ℕ) → 65536 ≤ w → one-if (eqb (65536 + x) w) ≡ one-if (eqb x (cell w))
 named-one x w h =
     ⊎-elim
     (λ (e : x ≡ cell w). one-same (65536 + x) w (omega arith) ∙ sym (one-same x (cell w) e))

@@ -111,7 +111,7 @@ module _ (cs : List Constructor) (store : Store) (numbers owned lent trees : Lis
       }
 
 -- cells that count as the words and they themselves name them are all that is reached
-full : (cs : List Constructor) (store : Store) (words found : List ℕ) → ((x : ℕ) → count x found ≡ count (65536 + x) words + total (part cs store x) found)
+pub full : (cs : List Constructor) (store : Store) (words found : List ℕ) → ((x : ℕ) → count x found ≡ count (65536 + x) words + total (part cs store x) found)
     → {c : ℕ} → Reached cs store words c → In c found
 full cs store words found h (from {c} i f) = omega (arith, h c)
 full cs store words found h (through {b} {c} r i f) = omega (arith, h c, total-ge (part cs store c) b found (full cs store words found h r))
