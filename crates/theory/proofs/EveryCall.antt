@@ -14,7 +14,7 @@ use Rattle.meaning.specs.Machine.{Store, Answer, answers}
 use Rattle.meaning.specs.Start.{start, answer-to, budget-of}
 use Rattle.meaning.specs.InPlace.{begins, Ended}
 use Rattle.theory.proofs.Answered.{answer-ended}
-use Rattle.theory.proofs.Refusals.{read-refuses, check-refuses}
+use Rattle.theory.proofs.CheckRefusals.{read-refuses, check-refuses}
 use Rattle.theory.proofs.StartExact.{start-answers}
 
 -- a file is read and its ownership checked, or one of the two refuses

@@ -18,7 +18,7 @@ use Rattle.meaning.specs.Answers.{said, told, verdictOf}
 use Rattle.theory.proofs.Taking.{refused}
 use Rattle.theory.proofs.Agree.{agreement}
 use Rattle.theory.proofs.Shapes.{shape-flat, shape-stacked}
-use Rattle.theory.proofs.Refusals.{read-refuses, check-refuses}
+use Rattle.theory.proofs.CheckRefusals.{read-refuses, check-refuses}
 
 -- the verdict by the two steps
 verdict-read : (bytes : List ℕ) (file : File) → read bytes ≡ ok file → check-file file ≡ ok tt → verdictOf bytes ≡ told (ok (shape file))
