@@ -1,5 +1,5 @@
--- Document 01's wrong turns to close off, each by a file or a start that a wrong definition would answer otherwise: one table, one theorem.
--- Assumes nothing.
+-- Document 01's wrong turns to close off, each by a file or a start that a wrong definition would answer otherwise, and a run cut short: one
+-- table, one theorem. Assumes nothing.
 use Prim.Native.Nat.{ℕ, zero, suc, _+_, _*_}
 use mathlib.Core.List.{List, [], _∷_, _++_, map}
 use mathlib.Core.Path.{_≡_, refl}
@@ -19,7 +19,7 @@ use Rattle.meaning.specs.Walk.{visit, drain}
 use Rattle.meaning.specs.Walk as W
 use Rattle.meaning.specs.Start.{start, answer-to, first, owned-walk, all-walk, free-walk}
 use Rattle.meaning.specs.Answers.{verdictOf, endOf, runOf}
-use Rattle.meaning.specs.Cases.{left-over, two-cells, checked, run-on, verdict, told-of, answers, Case, gives}
+use Rattle.meaning.specs.Cases.{reversal, left-over, two-cells, checked, run-on, verdict, told-of, answers, Case, gives}
 
 -- function 0 lends its slot and hands it over in one call, the lent argument first
 abbrev pub lent-first : List ℕ
@@ -60,6 +60,8 @@ turns =
     ∷ gives (checked two-branches) (verdict (verdicts.Flat 1 1))
     -- a fault of 7 to 12 does not come before a later one of 2 to 6
     ∷ gives (checked (take 12 left-over)) (verdict (verdicts.Refused 2 12))
+    -- P11 with budget 1: the first step moves no cell
+    ∷ gives (run-on reversal (65536 ∷ 0 ∷ []) two-cells 1) (answers ends.BudgetSpent 0 1 29 1 two-cells)
     ∷ []
 
 pub all-turns : map (λ c. told-of (c .asked)) turns ≡ map (λ c. c .expected) turns

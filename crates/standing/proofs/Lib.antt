@@ -1,4 +1,5 @@
 pub mod Readers
+pub mod Faults
 pub mod Stood
 pub mod Named
 pub mod Terms
