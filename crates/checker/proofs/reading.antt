@@ -1,0 +1,5 @@
+mod Named
+mod Spans
+mod Nodes
+mod Cycle
+mod Steps

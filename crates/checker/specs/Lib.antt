@@ -1,0 +1,2 @@
+pub mod ReadingBytes
+pub mod Reads
