@@ -3,3 +3,9 @@ mod Spans
 mod Nodes
 mod Cycle
 mod Steps
+mod Tabled
+mod Places
+mod Header
+mod Opened
+mod Body
+mod Filed

@@ -1,2 +1,3 @@
 pub mod ReadingBytes
 pub mod Reads
+pub mod Opening

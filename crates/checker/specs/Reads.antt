@@ -7,7 +7,7 @@ use mathlib.Core.Path.{_≡_}
 use lib.ListN.{length, drop, getElem?}
 use Rattle.meaning.specs.Syntax.{Signature, Constructor}
 use Rattle.meaning.specs.Outcome.{Outcome, ok, refuse}
-use Rattle.meaning.specs.Reading.{term, branches, bodies}
+use Rattle.meaning.specs.Reading.{term, branches}
 use Rattle.checker.specs.declared.reading.Path.{Path}
 use Rattle.checker.specs.declared.reading.Read.{Read}
 use Rattle.checker.specs.declared.reading.Read.the-variants.{Next, Fault}
@@ -52,4 +52,3 @@ unfoldable pub ReadsBranches : List ℕ → List ℕ → ℕ → ℕ → ℕ →
 ReadsBranches f d at count credit p r =
     (cs : List Constructor) (fs : List Signature) → Declares d cs fs → (n : ℕ) → length f - at < n
     → r ≡ spanOf (branches cs fs n count (extraOf credit) (p .slots) (p .nodes) at (drop at f))
-

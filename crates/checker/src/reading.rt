@@ -1,13 +1,38 @@
 // Reading: answers 1 to 6, over the bytes. No tree is built; what the file declares goes into one table of 128 words.
 ghost use mathlib.Core.Path.{_≡_};
-ghost use mathlib.Core.List.{List};
-ghost use Prim.Native.Nat.{ℕ, _+_, _*_, _%_, _<_, _≤_};
+ghost use mathlib.Core.List.{[]};
+ghost use Prim.Native.Nat.{_+_, _*_, _%_, _<_, _≤_};
 ghost use lib.ListN.{length};
-ghost use Rattle.meaning.specs.Marks.{findMark};
 ghost use Rattle.standing.specs.Bytes.{byteAt};
 ghost use Rattle.checker.specs.ReadingBytes.{bindsOf, room, knownArity, knownCount, atomField, makeFields, callFields, openFields, sumFields, fieldsAt, followsAt, nodeAt, moreOf, branchFields, branchAt, numberAt, smallBytes, conAt, funAt, expectAt, finishAt, endAt};
 ghost use Rattle.checker.specs.Reads.{From, ReadsTerm, ReadsBranches};
-use meaning::{find_mark, mark_row, AR, AT, BD, BR, BRANCHES, BYTES, CL, CN, CONSTRUCTORS, EARLY, FIELDS, FN, FUNCTIONS, GV, IF, LK, MK, ND, NODES, NU, OP, PARAMETERS, SLOTS, TL};
+ghost use Rattle.checker.specs.Opening.{tableWith, ConsRead, Headed, FunsRead, Bodied, ReadsBody, Ends, FileRead};
+use meaning::AR;
+use meaning::AT;
+use meaning::BD;
+use meaning::BR;
+use meaning::BRANCHES;
+use meaning::BYTES;
+use meaning::CL;
+use meaning::CN;
+use meaning::CONSTRUCTORS;
+use meaning::EARLY;
+use meaning::FIELDS;
+use meaning::FN;
+use meaning::FUNCTIONS;
+use meaning::GV;
+use meaning::IF;
+use meaning::LK;
+use meaning::MK;
+use meaning::ND;
+use meaning::NODES;
+use meaning::NU;
+use meaning::OP;
+use meaning::PARAMETERS;
+use meaning::SLOTS;
+use meaning::TL;
+use meaning::find_mark;
+use meaning::mark_row;
 
 // The slots and the nodes on a path, from the body's start.
 struct Path {
@@ -186,11 +211,7 @@ fn fields(file: &[u8], decl: &[u32; 128], at: usize, mark: usize) -> Read
 fn byte_at(file: &[u8], at: usize) -> usize
     ensures { λ r. ⌜ r ≡ byteAt (now (file .entry)) at ⌝ }
 {
-    if at < file.len() {
-        wide(file[at])
-    } else {
-        0
-    }
+    if at < file.len() { wide(file[at]) } else { 0 }
 }
 
 // What follows a node that was read.
@@ -222,21 +243,39 @@ fn read_node(file: &[u8], decl: &[u32; 128], at: usize, p: Path) -> Node
     ensures { λ r. ⌜ r ≡ nodeAt (now (file .entry)) (now (decl .entry)) at p ⌝ }
 {
     if file.len() < at + 2 {
-        return Node { then: Then::Fault(2, file.len()), path: p };
+        return Node {
+            then: Then::Fault(2, file.len()),
+            path: p,
+        };
     }
     let mark = find_mark(pair(file[at], file[at + 1]));
     match fields(file, decl, at, mark) {
-        Read::Fault(number, place) => Node { then: Then::Fault(number, place), path: p },
+        Read::Fault(number, place) => Node {
+            then: Then::Fault(number, place),
+            path: p,
+        },
         Read::Next(next) => {
             let slots = p.slots + binds(mark);
             if NODES <= p.nodes {
-                return Node { then: Then::Fault(5, at), path: p };
+                return Node {
+                    then: Then::Fault(5, at),
+                    path: p,
+                };
             }
             if SLOTS < slots {
-                return Node { then: Then::Fault(5, at), path: p };
+                return Node {
+                    then: Then::Fault(5, at),
+                    path: p,
+                };
             }
             let t = follows(file, at, mark, next);
-            Node { then: t, path: Path { slots: slots, nodes: p.nodes + 1 } }
+            Node {
+                then: t,
+                path: Path {
+                    slots: slots,
+                    nodes: p.nodes + 1,
+                },
+            }
         }
     }
 }
@@ -306,7 +345,14 @@ fn read_term(file: &[u8], decl: &[u32; 128], at: usize, p: Path) -> Read
 }
 
 // A list of branches, of which so many are left: where it ends, or the fault.
-fn read_branches(file: &[u8], decl: &[u32; 128], at: usize, left: usize, credit: usize, p: Path) -> Read
+fn read_branches(
+    file: &[u8],
+    decl: &[u32; 128],
+    at: usize,
+    left: usize,
+    credit: usize,
+    p: Path,
+) -> Read
     requires { ⌜ (at ≤ length (now file)) × (credit ≤ 1) × (p .slots ≤ 32) × (p .nodes ≤ 64) ⌝ }
     ensures { λ r. ⌜ From (now (file .entry)) at r × ReadsBranches (now (file .entry)) (now (decl .entry)) at left credit p r ⌝ }
 {
@@ -315,7 +361,15 @@ fn read_branches(file: &[u8], decl: &[u32; 128], at: usize, left: usize, credit:
     }
     match read_branch(file, decl, at, credit, p.slots) {
         Read::Fault(number, place) => Read::Fault(number, place),
-        Read::Next(slots) => match read_term(file, decl, at + 3, Path { slots: slots, nodes: p.nodes }) {
+        Read::Next(slots) => match read_term(
+            file,
+            decl,
+            at + 3,
+            Path {
+                slots: slots,
+                nodes: p.nodes,
+            },
+        ) {
             Read::Next(next) => read_branches(file, decl, next, left - 1, credit, p),
             Read::Fault(number, place) => Read::Fault(number, place),
         },
@@ -427,5 +481,207 @@ fn read_end(file: &[u8], at: usize) -> Read
     match expect_mark(file, at, ND) {
         Read::Fault(number, place) => Read::Fault(number, place),
         Read::Next(next) => finish(file, next),
+    }
+}
+
+// So many records are read and reading stands at a place, with number 0; or number is the answer that refuses the file there.
+struct Reached {
+    count: usize,
+    at: usize,
+    number: u32,
+}
+
+// The constructors; each one's word goes into the table.
+fn read_cons(file: &[u8], decl: &mut [u32; 128]) -> Reached
+    requires { ⌜ (length (now file) ≤ 4096) × (now decl ≡ tableWith [] [] []) ⌝ }
+    ensures { λ r. ⌜ ConsRead (now (file .entry)) (now (decl .exit)) r ⌝ }
+{
+    let mut n: usize = 0;
+    let mut at: usize = 0;
+    while mark_at(file, at) == CN {
+        match read_con(file, at + 2) {
+            Read::Fault(number, place) => {
+                return Reached {
+                    count: n,
+                    at: place,
+                    number: number,
+                };
+            }
+            Read::Next(next) => {
+                if CONSTRUCTORS <= n {
+                    return Reached {
+                        count: n,
+                        at: at,
+                        number: 5,
+                    };
+                }
+                decl[n] = entry_word(file[at + 2], at + 2);
+                n += 1;
+                at = next;
+            }
+        }
+    }
+    Reached {
+        count: n,
+        at: at,
+        number: 0,
+    }
+}
+
+// The functions, behind the constructors; each one's word goes into the table.
+fn read_funs(file: &[u8], decl: &mut [u32; 128], start: usize) -> Reached
+    requires { ⌜ (length (now file) ≤ 4096) × Headed (now file) (now decl) 0 start × (numberAt (now file) start ≡ 0 → ⊥) ⌝ }
+    ensures { λ r. ⌜ FunsRead (now (file .entry)) (now (decl .exit)) r ⌝ }
+{
+    let mut n: usize = 0;
+    let mut at: usize = start;
+    while mark_at(file, at) == FN {
+        match read_fun(file, at + 2) {
+            Read::Fault(number, place) => {
+                return Reached {
+                    count: n,
+                    at: place,
+                    number: number,
+                };
+            }
+            Read::Next(next) => {
+                if FUNCTIONS <= n {
+                    return Reached {
+                        count: n,
+                        at: at,
+                        number: 5,
+                    };
+                }
+                decl[64 + n] = entry_word(file[at + 2], at + 2);
+                n += 1;
+                at = next;
+            }
+        }
+    }
+    Reached {
+        count: n,
+        at: at,
+        number: 0,
+    }
+}
+
+// BD and the body of a function: where its term ends, or the fault.
+fn read_body(file: &[u8], decl: &[u32; 128], at: usize, f: usize) -> Read
+    requires { ⌜ (at ≤ length (now file)) × (knownCount (now decl) f ≤ 8) ⌝ }
+    ensures { λ r. ⌜ From (now (file .entry)) (at + 3) r × ReadsBody (now (file .entry)) (now (decl .entry)) at f r ⌝ }
+{
+    match expect_mark(file, at, BD) {
+        Read::Fault(number, place) => Read::Fault(number, place),
+        Read::Next(start) => {
+            let n = params(decl, f);
+            read_term(file, decl, start, Path { slots: n, nodes: 0 })
+        }
+    }
+}
+
+// The bodies of so many functions, each one's place into the table, and the end of the file.
+fn read_bodies(file: &[u8], decl: &mut [u32; 128], start: usize, count: usize) -> Reached
+    requires { ⌜ (length (now file) ≤ 4096) × Bodied (now file) (now decl) count 0 start ⌝ }
+    ensures { λ r. ⌜ Ends (now (file .entry)) (now (decl .exit)) (r .count) (r .at) (r .number) ⌝ }
+{
+    let mut f: usize = 0;
+    let mut at: usize = start;
+    while f < count {
+        match read_body(file, decl, at, f) {
+            Read::Fault(number, place) => {
+                return Reached {
+                    count: count,
+                    at: place,
+                    number: number,
+                };
+            }
+            Read::Next(next) => {
+                decl[96 + f] = (at + 2) as u32;
+                f += 1;
+                at = next;
+            }
+        }
+    }
+    match read_end(file, at) {
+        Read::Fault(number, place) => Reached {
+            count: count,
+            at: place,
+            number: number,
+        },
+        Read::Next(end) => Reached {
+            count: count,
+            at: end,
+            number: 0,
+        },
+    }
+}
+
+// A file without a function, behind its constructors: a mark is missing or not allowed here.
+fn no_function(file: &[u8], decl: &[u32; 128], at: usize) -> Reached
+    requires { ⌜ (length (now file) ≤ 4096) × Headed (now file) (now decl) 0 at × (numberAt (now file) at ≡ 0 → ⊥) × (numberAt (now file) at ≡ 1 → ⊥) ⌝ }
+    ensures { λ r. ⌜ Ends (now (file .entry)) (now (decl .entry)) (r .count) (r .at) (r .number) ⌝ }
+{
+    if file.len() < at + 2 {
+        return Reached {
+            count: 0,
+            at: file.len(),
+            number: 2,
+        };
+    }
+    Reached {
+        count: 0,
+        at: at,
+        number: 3,
+    }
+}
+
+// The records of a file, with what they declare in the table.
+fn read_records(file: &[u8], decl: &mut [u32; 128]) -> Reached
+    requires { ⌜ (length (now file) ≤ 4096) × (now decl ≡ tableWith [] [] []) ⌝ }
+    ensures { λ r. ⌜ Ends (now (file .entry)) (now (decl .exit)) (r .count) (r .at) (r .number) ⌝ }
+{
+    let cons = read_cons(file, decl);
+    if cons.number != 0 {
+        return cons;
+    }
+    let funs = read_funs(file, decl, cons.at);
+    if funs.number != 0 {
+        return funs;
+    }
+    if funs.count == 0 {
+        return no_function(file, decl, funs.at);
+    }
+    read_bodies(file, decl, funs.at, funs.count)
+}
+
+// What a file declares, and how many functions: word c < 64 a constructor's arity, word 64 + f a function's count of parameters, each with
+// 256 times the place of the first field (255: not declared), word 96 + f the place of its body's term. Or number is the answer that
+// refuses the file, and at its place.
+pub(crate) struct Heads {
+    pub decl: [u32; 128],
+    pub funs: usize,
+    pub at: usize,
+    pub number: u32,
+}
+
+// The whole file: its declarations, or the answer 1 to 6 that refuses it.
+pub(crate) fn read_file(file: &[u8]) -> Heads
+    ensures { λ r. ⌜ FileRead (now (file .entry)) r ⌝ }
+{
+    let mut decl: [u32; 128] = [255; 128];
+    if BYTES < file.len() {
+        return Heads {
+            decl: decl,
+            funs: 0,
+            at: 0,
+            number: 1,
+        };
+    }
+    let r = read_records(file, &mut decl);
+    Heads {
+        decl: decl,
+        funs: r.count,
+        at: r.at,
+        number: r.number,
     }
 }

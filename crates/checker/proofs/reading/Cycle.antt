@@ -13,7 +13,6 @@ use Rattle.meaning.specs.Outcome.{ok}
 use Rattle.meaning.specs.Reading.{ensure, any, limits, mark, expect, term, branches}
 use Rattle.meaning.specs.Marks.{find, marks, other, markOf, findMark}
 use Rattle.checker.specs.declared.reading.Path.{Path}
-use Rattle.checker.specs.declared.reading.Then.the-variants as then′
 use Rattle.checker.specs.declared.reading.Read.{Read}
 use Rattle.checker.specs.declared.reading.Read.the-variants.{Next, Fault}
 use Rattle.meaning.specs.Choice.{pick}
@@ -108,7 +107,7 @@ module _ (f d : List ℕ) (cs : List Constructor) (fs : List Signature) (D : Dec
 
   branch-turn : (n : ℕ) → TermsSpan n → ListsSpan n → (p : Path) (at c credit : ℕ) → at ≤ length f
       → Spans f at (branches cs fs (suc n) (suc c) (extraOf credit) (p .slots) (p .nodes) at (drop at f))
-        (andThen (branchBy (fits at (p .nodes)) f d at credit (p .slots)) (λ s. andThen (tOf f cs fs n (at + 3) (path s (p .nodes))) (λ m. bOf f cs fs n m c credit p)))
+      (andThen (branchBy (fits at (p .nodes)) f d at credit (p .slots)) (λ s. andThen (tOf f cs fs n (at + 3) (path s (p .nodes))) (λ m. bOf f cs fs n m c credit p)))
   unfolding branches expect limits fits pick andThen arityOf
   branch-turn n hT hB p at c credit h =
       two-law f at _ (λ x y. ensure 3 at (eqb (x * 256 + y) 16978)) at _ h (λ l. failed (branch-short _ f d at credit (p .slots) l))
@@ -163,7 +162,7 @@ module _ (f d : List ℕ) (cs : List Constructor) (fs : List Signature) (D : Dec
 
   pub branch-step : (n : ℕ) (p : Path) (at c credit : ℕ) → at ≤ length f → p .nodes ≤ 64
       → spanOf (branches cs fs (suc n) (suc c) (extraOf credit) (p .slots) (p .nodes) at (drop at f))
-        ≡ andThen (branchBy (fitting at) f d at credit (p .slots)) (λ s. andThen (tOf f cs fs n (at + 3) (path s (p .nodes))) (λ m. bOf f cs fs n m c credit p))
+      ≡ andThen (branchBy (fitting at) f d at credit (p .slots)) (λ s. andThen (tOf f cs fs n (at + 3) (path s (p .nodes))) (λ m. bOf f cs fs n m c credit p))
   branch-step n p at c credit h k =
       subst (λ fit. spanOf (branches cs fs (suc n) (suc c) (extraOf credit) (p .slots) (p .nodes) at (drop at f)) ≡ andThen (branchBy fit f d at credit (p .slots)) (λ s. andThen (tOf f cs fs n (at + 3) (path s (p .nodes))) (λ m. bOf f cs fs n m c credit p)))
       (fits-is at (p .nodes) k) (span-is (branch-turn n (spans n .0) (spans n .1) p at c credit h))

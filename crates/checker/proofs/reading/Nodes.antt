@@ -186,7 +186,7 @@ module _ (f d : List ℕ) (cs : List Constructor) (fs : List Signature) (D : Dec
     (T : (slots nodes : ℕ) → Reader Term) (B : (count : ℕ) → (Constructor → ℕ) → (slots nodes : ℕ) → Reader Branches)
     (hT : (s k n : ℕ) → n ≤ length f → Spans f (suc n) (T s k n (drop n f)) (t n (path s k)))
     (hB : (c credit s k n : ℕ) (x : Constructor → ℕ) → ((y : Constructor) → x y ≡ extraOf credit y) → n ≤ length f
-        → Spans f n (B c x s k n (drop n f)) (b n c credit (path s k)))
+    → Spans f n (B c x s k n (drop n f)) (b n c credit (path s k)))
     (h2 : at + 2 ≤ length f) where
   abbrev Holds : Mark → Type 0
   Holds m = Spans f (suc at) (node cs fs T B (p .slots) (p .nodes) at m (at + 2) (drop (at + 2) f)) (byNode (nodeOf f d at p (numberOf m)) t b)

@@ -1,14 +1,12 @@
 -- A reader of trees, run on the bytes from a place on, beside a read of the code: one law for each primitive reader. Assumes nothing.
-use Prim.Native.Nat.{ℕ, zero, suc, _+_, _-_, _≤_, _<_}
-use mathlib.Core.List.{List, [], _∷_}
+use Prim.Native.Nat.{ℕ, suc, _+_, _-_, _≤_, _<_}
+use mathlib.Core.List.{List}
 use mathlib.Core.Bool.{Bool, true, false}
-use mathlib.Core.Option.{Option, none, some}
+use mathlib.Core.Option.{none, some}
 use mathlib.Core.Path.{_≡_, refl, sym, subst}
-use lib.ListN.{length, drop, getD, getElem?, drop-of-length-le}
-use lib.Seq.{drop-cons}
-use lib.Dec.{leb, ltb}
+use lib.ListN.{length, drop, getD, getElem?}
+use lib.Dec.{ltb}
 use native.Mathlib.Omega.{arith}
-use borrow.Author.Tests.{leb-true, leb-false}
 use Rattle.meaning.specs.Outcome.{Outcome, ok, refuse, then}
 use Rattle.meaning.specs.Reading.{Reader, byte, ensure, times, declared, below}
 use Rattle.checker.specs.declared.reading.Read.{Read}

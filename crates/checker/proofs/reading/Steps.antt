@@ -249,7 +249,7 @@ module _ (f d : List ℕ) (at credit : ℕ) (p : Path) (h : at ≤ length f) (hk
 
   lists-by : (c k : ℕ) → k ≡ suc c → (r : Read)
       → ((cs : List Constructor) (fs : List Signature) → Declares d cs fs → (m : ℕ) → length f - at ≤ m
-        → r ≡ andThen (branchBy (fitting at) f d at credit (p .slots)) (λ s. andThen (tOf f cs fs m (at + 3) (path s (p .nodes))) (λ n. bOf f cs fs m n c credit p)))
+      → r ≡ andThen (branchBy (fitting at) f d at credit (p .slots)) (λ s. andThen (tOf f cs fs m (at + 3) (path s (p .nodes))) (λ n. bOf f cs fs m n c credit p)))
       → ReadsBranches f d at k credit p r
   unfolding ReadsBranches
   lists-by c k e r g cs fs D zero l = absurd (omega arith)

@@ -97,9 +97,10 @@ read-branches-returns-3 : (t : ℕ) → read-branches-lts.Need-returns-3 (read-b
 read-branches-returns-3 t c =
     let q = sym (c .before .before .before .before .before .before .before .before .read-branch .ensures) ∙ c .before .before .before .before .before .before .slots .given .1 in
     let x = branch-of _ _ _ _ _ (c .before .before .before .before .before .before .before .before .before .before .before .pre .1 .0) q in
-    let y = from-next (c .before .before .next .given .1) (c .before .before .before .before .read-term .ensures .0) in
-    (from-late (omega (arith, x .0, y .0)) (c .read-branches .ensures .0),
-     branch-reads _ _ _ _ _ (c .before .before .before .before .before .before .before .before .before .before .before .pre .1 .0) (c .before .before .before .before .before .before .before .before .before .before .before .pre .1 .3) _ _ (pred-is _ (c .before .before .before .before .before .before .before .before .before .if1 .left)) _ _ _ q (x .0) (omega (arith, y .0)) (y .1) (subst (ReadsTerm _ _ _ _) (c .before .before .next .given .1) (c .before .before .before .before .read-term .ensures .1)) (c .read-branches .ensures .1))
+    let y = from-next (c .before .before .next .given .1) (c .before .before .before .before .read-term .ensures .0) in (
+      from-late (omega (arith, x .0, y .0)) (c .read-branches .ensures .0),
+      branch-reads _ _ _ _ _ (c .before .before .before .before .before .before .before .before .before .before .before .pre .1 .0) (c .before .before .before .before .before .before .before .before .before .before .before .pre .1 .3) _ _ (pred-is _ (c .before .before .before .before .before .before .before .before .before .if1 .left)) _ _ _ q (x .0) (omega (arith, y .0)) (y .1) (subst (ReadsTerm _ _ _ _) (c .before .before .next .given .1) (c .before .before .before .before .read-term .ensures .1)) (c .read-branches .ensures .1),
+    )
 
 read-branches-returns-4 : (t : ℕ) → read-branches-lts.Need-returns-4 (read-branches-calls t) (read-branches-at t) read-branches.Post
 read-branches-returns-4 t c =
@@ -172,9 +173,10 @@ read-term-returns-3 : (t : ℕ) → read-term-lts.Need-returns-3 (read-term-call
 read-term-returns-3 t c =
     let g = goes _ _ _ _ _ (c .before .before .before .before .before .before .before .before .before .read-node .ensures) (c .before .before .before .before .before .before .before .before .before .before .before .pre .1 .0) (c .before .before .before .before .before .before .before .before .before .before .before .pre .1 .1) (c .before .before .before .before .before .before .before .before .before .before .before .pre .1 .2) in
     let x = two-of (c .before .before .before .before .before .before .follows3 .given .1) (g .ahead) in
-    let y = from-next (c .before .before .second .given .1) (c .before .before .before .before .read-term2 .ensures .0) in
-    (from-past (omega (arith, x .0, y .0)) (c .read-term3 .ensures .0),
-     two-reads _ _ _ _ (c .before .before .before .before .before .before .before .before .before .before .before .pre .1 .0) _ (c .before .before .before .before .before .before .before .before .before .read-node .ensures) _ _ _ (c .before .before .before .before .before .before .follows3 .given .1) (x .0) (omega (arith, y .0)) (y .1) (subst (ReadsTerm _ _ _ _) (c .before .before .second .given .1) (c .before .before .before .before .read-term2 .ensures .1)) (c .read-term3 .ensures .1))
+    let y = from-next (c .before .before .second .given .1) (c .before .before .before .before .read-term2 .ensures .0) in (
+      from-past (omega (arith, x .0, y .0)) (c .read-term3 .ensures .0),
+      two-reads _ _ _ _ (c .before .before .before .before .before .before .before .before .before .before .before .pre .1 .0) _ (c .before .before .before .before .before .before .before .before .before .read-node .ensures) _ _ _ (c .before .before .before .before .before .before .follows3 .given .1) (x .0) (omega (arith, y .0)) (y .1) (subst (ReadsTerm _ _ _ _) (c .before .before .second .given .1) (c .before .before .before .before .read-term2 .ensures .1)) (c .read-term3 .ensures .1),
+    )
 
 read-term-returns-4 : (t : ℕ) → read-term-lts.Need-returns-4 (read-term-calls t) (read-term-at t) read-term.Post
 read-term-returns-4 t c =

@@ -4,8 +4,6 @@ use Rattle.checker.proofs.reading.atom_field.Statement.{statement}
 use Rattle.checker.proofs.reading.atom_field.Tie as tie
 use Rattle.checker.proofs.reading.atom_field.Reads as reads
 use Rattle.checker.proofs.reading.atom_field.Lts as lts
-use Rattle.checker.proofs.reading.arity.Reads as arity-reads
-use Rattle.checker.proofs.reading.wide.Reads as wide-reads
 use borrow.Author.Tests.{le-leb, lt-leb, eq-eqb, ne-eqb}
 use Rattle.meaning.specs.Choice.{pick}
 use Rattle.checker.specs.ReadingBytes.{atomField}

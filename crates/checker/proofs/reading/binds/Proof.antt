@@ -4,8 +4,6 @@ use Rattle.checker.proofs.reading.binds.Statement.{statement}
 use Rattle.checker.proofs.reading.binds.Tie as tie
 use Rattle.checker.proofs.reading.binds.Reads as reads
 use Rattle.checker.proofs.reading.binds.Lts as lts
-use Rattle.meaning.proofs.mark_row.Reads as mark-row-reads
-use Rattle.checker.proofs.reading.wide.Reads as wide-reads
 use mathlib.Core.Path.{sym, ap, subst, _∙_}
 use Rattle.checker.specs.ReadingBytes.{bindsOf}
 use Rattle.meaning.proofs.Table.{row-small}

@@ -4,9 +4,6 @@ use Rattle.checker.proofs.reading.branch_fields.Statement.{statement}
 use Rattle.checker.proofs.reading.branch_fields.Tie as tie
 use Rattle.checker.proofs.reading.branch_fields.Reads as reads
 use Rattle.checker.proofs.reading.branch_fields.Lts as lts
-use Rattle.checker.proofs.reading.arity.Reads as arity-reads
-use Rattle.checker.proofs.reading.bound_by.Reads as bound-by-reads
-use Rattle.checker.proofs.reading.wide.Reads as wide-reads
 use borrow.Author.Tests.{le-leb, lt-leb, lt-ltb, le-ltb}
 use native.Mathlib.Omega.{arith}
 use Rattle.meaning.specs.Choice.{pick}

@@ -4,12 +4,6 @@ use Rattle.checker.proofs.reading.fields.Statement.{statement}
 use Rattle.checker.proofs.reading.fields.Tie as tie
 use Rattle.checker.proofs.reading.fields.Reads as reads
 use Rattle.checker.proofs.reading.fields.Lts as lts
-use Rattle.checker.proofs.reading.atom_field.Reads as atom-field-reads
-use Rattle.checker.proofs.reading.call_fields.Reads as call-fields-reads
-use Rattle.checker.proofs.reading.make_fields.Reads as make-fields-reads
-use Rattle.checker.proofs.reading.open_fields.Reads as open-fields-reads
-use Rattle.checker.proofs.reading.room_for.Reads as room-for-reads
-use Rattle.checker.proofs.reading.sum_fields.Reads as sum-fields-reads
 use borrow.Author.Tests.{ne-eqb}
 use Rattle.meaning.specs.Choice.{pick}
 use Rattle.checker.specs.ReadingBytes.{fieldsAt}

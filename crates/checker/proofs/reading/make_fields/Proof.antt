@@ -4,9 +4,6 @@ use Rattle.checker.proofs.reading.make_fields.Statement.{statement}
 use Rattle.checker.proofs.reading.make_fields.Tie as tie
 use Rattle.checker.proofs.reading.make_fields.Reads as reads
 use Rattle.checker.proofs.reading.make_fields.Lts as lts
-use Rattle.checker.proofs.reading.arity.Reads as arity-reads
-use Rattle.checker.proofs.reading.room_for.Reads as room-for-reads
-use Rattle.checker.proofs.reading.wide.Reads as wide-reads
 use borrow.Author.Tests.{le-leb, lt-leb, lt-ltb, le-ltb, eq-eqb, ne-eqb}
 use Rattle.meaning.specs.Choice.{pick}
 use Rattle.checker.specs.ReadingBytes.{makeFields}

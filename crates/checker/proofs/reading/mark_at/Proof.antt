@@ -4,8 +4,6 @@ use Rattle.checker.proofs.reading.mark_at.Statement.{statement}
 use Rattle.checker.proofs.reading.mark_at.Tie as tie
 use Rattle.checker.proofs.reading.mark_at.Reads as reads
 use Rattle.checker.proofs.reading.mark_at.Lts as lts
-use Rattle.meaning.proofs.find_mark.Reads as find-mark-reads
-use Rattle.checker.proofs.reading.pair.Reads as pair-reads
 use borrow.Author.Tests.{lt-ltb, le-ltb}
 use Rattle.meaning.specs.Choice.{pick}
 use Rattle.checker.specs.ReadingBytes.{numberAt}

@@ -4,9 +4,6 @@ use Rattle.checker.proofs.reading.read_branch.Statement.{statement}
 use Rattle.checker.proofs.reading.read_branch.Tie as tie
 use Rattle.checker.proofs.reading.read_branch.Reads as reads
 use Rattle.checker.proofs.reading.read_branch.Lts as lts
-use Rattle.checker.proofs.reading.branch_fields.Reads as branch-fields-reads
-use Rattle.meaning.proofs.find_mark.Reads as find-mark-reads
-use Rattle.checker.proofs.reading.pair.Reads as pair-reads
 use borrow.Author.Tests.{lt-ltb, le-ltb, eq-eqb, ne-eqb}
 use Rattle.meaning.specs.Choice.{pick}
 use Rattle.checker.specs.ReadingBytes.{branchBy}

@@ -4,8 +4,6 @@ use Rattle.checker.proofs.reading.read_con.Statement.{statement}
 use Rattle.checker.proofs.reading.read_con.Tie as tie
 use Rattle.checker.proofs.reading.read_con.Reads as reads
 use Rattle.checker.proofs.reading.read_con.Lts as lts
-use Rattle.checker.proofs.reading.small_bytes.Reads as small-bytes-reads
-use Rattle.checker.proofs.reading.wide.Reads as wide-reads
 use borrow.Author.Tests.{le-leb, lt-leb, lt-ltb, le-ltb}
 use Rattle.meaning.specs.Choice.{pick}
 use Rattle.checker.specs.ReadingBytes.{conAt}

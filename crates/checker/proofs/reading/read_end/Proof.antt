@@ -4,8 +4,6 @@ use Rattle.checker.proofs.reading.read_end.Statement.{statement}
 use Rattle.checker.proofs.reading.read_end.Tie as tie
 use Rattle.checker.proofs.reading.read_end.Reads as reads
 use Rattle.checker.proofs.reading.read_end.Lts as lts
-use Rattle.checker.proofs.reading.expect_mark.Reads as expect-mark-reads
-use Rattle.checker.proofs.reading.finish.Reads as finish-reads
 use mathlib.Core.Path.{sym, _∙_}
 use Rattle.checker.specs.ReadingBytes.{onNext, endAt}
 use Prim.Native.Nat.{_-_}

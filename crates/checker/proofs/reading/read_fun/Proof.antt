@@ -4,8 +4,6 @@ use Rattle.checker.proofs.reading.read_fun.Statement.{statement}
 use Rattle.checker.proofs.reading.read_fun.Tie as tie
 use Rattle.checker.proofs.reading.read_fun.Reads as reads
 use Rattle.checker.proofs.reading.read_fun.Lts as lts
-use Rattle.checker.proofs.reading.small_bytes.Reads as small-bytes-reads
-use Rattle.checker.proofs.reading.wide.Reads as wide-reads
 use borrow.Author.Tests.{le-leb, lt-leb, lt-ltb, le-ltb}
 use native.Mathlib.Omega.{arith}
 use mathlib.Core.Path.{sym, _∙_}

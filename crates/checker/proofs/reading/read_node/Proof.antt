@@ -4,11 +4,6 @@ use Rattle.checker.proofs.reading.read_node.Statement.{statement}
 use Rattle.checker.proofs.reading.read_node.Tie as tie
 use Rattle.checker.proofs.reading.read_node.Reads as reads
 use Rattle.checker.proofs.reading.read_node.Lts as lts
-use Rattle.checker.proofs.reading.binds.Reads as binds-reads
-use Rattle.checker.proofs.reading.fields.Reads as fields-reads
-use Rattle.meaning.proofs.find_mark.Reads as find-mark-reads
-use Rattle.checker.proofs.reading.follows.Reads as follows-reads
-use Rattle.checker.proofs.reading.pair.Reads as pair-reads
 use borrow.Author.Tests.{le-leb, lt-leb, lt-ltb, le-ltb}
 use native.Mathlib.Omega.{arith}
 use Rattle.meaning.specs.Choice.{pick}

@@ -4,7 +4,6 @@ use Rattle.checker.proofs.reading.sum_fields.Statement.{statement}
 use Rattle.checker.proofs.reading.sum_fields.Tie as tie
 use Rattle.checker.proofs.reading.sum_fields.Reads as reads
 use Rattle.checker.proofs.reading.sum_fields.Lts as lts
-use Rattle.checker.proofs.reading.room_for.Reads as room-for-reads
 use borrow.Author.Tests.{le-leb, lt-leb, lt-ltb, le-ltb}
 use Rattle.meaning.specs.Choice.{pick}
 use Rattle.checker.specs.ReadingBytes.{sumFields}
