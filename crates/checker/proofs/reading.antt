@@ -1,0 +1,11 @@
+mod Named
+mod Spans
+mod Nodes
+mod Cycle
+mod Steps
+mod Tabled
+mod Places
+mod Header
+mod Opened
+mod Body
+mod Filed

@@ -1,0 +1,23 @@
+-- `reading::byte_at` meets its contract. Assumes nothing.
+use borrow.Author.Needs.{needs}
+use Rattle.checker.proofs.reading.byte_at.Statement.{statement}
+use Rattle.checker.proofs.reading.byte_at.Tie as tie
+use Rattle.checker.proofs.reading.byte_at.Reads as reads
+use Rattle.checker.proofs.reading.byte_at.Lts as lts
+use mathlib.Core.Path.{sym}
+use lib.ListN.{List·getD-eq-default}
+
+shared-slice-read-wide : tie.Need-shared-slice-read-wide
+shared-slice-read-wide c = search needs
+
+wide-requires : tie.Need-wide-requires
+wide-requires c κs = search needs
+
+returns : tie.Need-returns
+returns c = c .wide .ensures
+
+returns-2 : tie.Need-returns-2
+returns-2 c = sym (List·getD-eq-default (c .before .before .args .file .now) 0 (c .if1 .left))
+
+pub byte-at-spec : {M : Type 1} → statement M
+byte-at-spec = tie.close (tie.spec shared-slice-read-wide wide-requires returns returns-2)

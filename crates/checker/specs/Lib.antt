@@ -1,0 +1,3 @@
+pub mod ReadingBytes
+pub mod Reads
+pub mod Opening
