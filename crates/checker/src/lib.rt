@@ -1,0 +1,2 @@
+// The checker of rule files.
+mod calls;
