@@ -18,4 +18,3 @@ pub mod Runs
 pub mod InPlace
 pub mod Answers
 pub mod InPlaceRuns
-pub mod Scan
