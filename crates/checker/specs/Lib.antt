@@ -1,3 +1,5 @@
 pub mod ReadingBytes
 pub mod Reads
 pub mod Opening
+pub mod Bits
+pub mod Scan

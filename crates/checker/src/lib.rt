@@ -1,1 +1,3 @@
+// The checker of rule files.
+mod calls;
 mod reading;

@@ -20,4 +20,3 @@ pub mod Cases
 pub mod WrongTurns
 pub mod PlainCases
 pub mod CellCases
-pub mod Scan

@@ -1,0 +1,172 @@
+-- Level n is the functions at the end of walks from function 0 with n calls that wait; so the levels' end is the depth, and levels
+-- that go on past the functions reached are no flat file's. Assumes nothing.
+use Prim.Native.Nat.{ℕ, zero, suc, _+_, _≤_, _<_}
+use mathlib.Core.Bool.{Bool, true, false}
+use mathlib.Core.List.{List}
+use mathlib.Core.Path.{_≡_, refl, sym, ap, ap₂, _∙_, subst}
+use native.Mathlib.Omega.{arith}
+use native.Mathlib.Decide.{decLt}
+use lib.ListN.{length, getD, set, replicate}
+use lib.Dec.{leb}
+use borrow.Author.Tests.{leb-false}
+use Rattle.meaning.specs.declared.How.{How}
+use Rattle.meaning.specs.declared.How.the-variants.{Never, Tail, Waits}
+use Rattle.meaning.specs.declared.Verdict.{Verdict}
+use Rattle.meaning.specs.declared.Verdict.the-variants as verdict
+use Rattle.meaning.specs.Outcome.{ok}
+use Rattle.meaning.specs.Answers.{told}
+use Rattle.meaning.specs.Sets.{first, zip, or, except}
+use Rattle.meaning.specs.Calls.{Square, entry, Walk, stay, tail, wait, Flat, IsDepth, IsReached, Shape, flat, row, start, reach, judge}
+use Rattle.meaning.specs.Calls as calls
+use Rattle.theory.proofs.Walks.{Narrow, join, then-tail, then-wait}
+use Rattle.theory.proofs.Reach.{clash}
+use Rattle.theory.proofs.Shapes.{Judged, as-flat, as-stacked, judged, depth-only, reached-only, no-deeper}
+use Rattle.checker.specs.Bits.{bitsOf, closure, onward, level, Some, Empty, Settles, ends, goes-on}
+use Rattle.checker.specs.Bits as bits
+use Rattle.checker.specs.Scan.{goes, Within}
+use Rattle.checker.proofs.calls.Digits.{bits-length}
+use Rattle.checker.proofs.calls.Closing.{Closed, closure-closed, onward-length, onward-from, onward-to}
+
+goes-tail : (h : How) → goes false h ≡ true → h ≡ Tail
+goes-tail Never e = absurd (clash e refl)
+goes-tail Tail e = refl
+goes-tail Waits e = absurd (clash e refl)
+
+goes-wait : (h : How) → goes true h ≡ true → h ≡ Waits
+goes-wait Never e = absurd (clash e refl)
+goes-wait Tail e = absurd (clash e refl)
+goes-wait Waits e = refl
+
+-- a walk with fewer calls that wait, from the same function
+prefix : {sq : Square} {f h n : ℕ} → Walk sq f h n → (k : ℕ) → k ≤ n → (g : ℕ) × Walk sq f g k
+prefix {sq} {f} stay k l = let e : 0 ≡ k = omega arith in (f, subst (λ n. Walk sq f f n) e stay)
+prefix (tail e v) k l = let r = prefix v k l in (r .0, tail e (r .1))
+prefix (wait {f} e v) zero l = (f, stay)
+prefix (wait e v) (suc k) l = let r = prefix v k (omega arith) in (r .0, wait e (r .1))
+
+-- a closed walk with a call that waits, as often as wanted
+again : {sq : Square} {f m : ℕ} → Walk sq f f (suc m) → (k : ℕ) → (n : ℕ) × (k ≤ n) × Walk sq f f n
+again w zero = (0, omega arith, stay)
+again {m = m} w (suc k) = let r = again w k in (suc m + r .0, omega (arith, r .1), join w (r .2))
+
+one : (f : ℕ) → getD (bitsOf 32 1) f false ≡ true → f ≡ 0
+unfolding bitsOf
+one zero e = refl
+one (suc f) e = absurd (clash e (none 31 f))
+  where
+    none : (n j : ℕ) → getD (replicate n false) j false ≡ false
+    none zero j = refl
+    none (suc n) zero = refl
+    none (suc n) (suc j) = none n j
+
+one-in : getD (bitsOf 32 1) 0 false ≡ true
+unfolding bitsOf
+one-in = refl
+
+-- rows of tails and of waits that say what the square says
+pub record Tells (sq : Square) (count : ℕ) (tails waits : ℕ → List Bool) : Type 0 where
+  pub tail-size : (f : ℕ) → length (tails f) ≡ 32
+  pub wait-size : (f : ℕ) → length (waits f) ≡ 32
+  pub tail-at : (f g : ℕ) → getD (tails f) g false ≡ goes false (entry sq f g)
+  pub wait-at : (f g : ℕ) → getD (waits f) g false ≡ goes true (entry sq f g)
+
+module _ (sq : Square) (count : ℕ) (within : Within count sq) (tails waits : ℕ → List Bool) (tells : Tells sq count tails waits) where
+  abbrev L : ℕ → List Bool
+  L n = level tails waits count n
+
+  abbrev starts : ℕ → List Bool
+  starts zero = bitsOf 32 1
+  starts (suc n) = onward count waits (L n)
+
+  levels : (n : ℕ) → Closed tails (λ f. Walk sq 0 f n) (starts n) (L n)
+  unfolding level
+  levels zero =
+      closure-closed tails (tells .tail-size) (λ f. Walk sq 0 f 0) (λ f g w e. then-tail w (goes-tail (entry sq f g) (sym (tells .tail-at f g) ∙ e)))
+      (bitsOf 32 1) (bits-length 32 1) (λ f e. subst (λ g. Walk sq 0 g 0) (sym (one f e)) stay)
+  levels (suc n) =
+      closure-closed tails (tells .tail-size) (λ f. Walk sq 0 f (suc n)) (λ f g w e. then-tail w (goes-tail (entry sq f g) (sym (tells .tail-at f g) ∙ e)))
+      (onward count waits (L n)) (onward-length waits (tells .wait-size) (L n) count) (λ f e. from f (onward-from waits (tells .wait-size) (L n) count f e) (levels n))
+    where
+      from : (g : ℕ) → (f : ℕ) × (f < count) × (getD (L n) f false ≡ true) × (getD (waits f) g false ≡ true) → Closed tails (λ f. Walk sq 0 f n) (starts n) (L n) → Walk sq 0 g (suc n)
+      from g r c = then-wait (c .known (r .0) (r .2)) (goes-wait (entry sq (r .0) g) (sym (tells .wait-at (r .0) g) ∙ r .3))
+
+  caller : (f g : ℕ) → entry sq f g ≡ Waits → f < count
+  caller f g e = go (decLt f count)
+    where
+      go : Dec (f < count) → f < count
+      go (yes l) = l
+      go (no l) = let q : goes true (entry sq f g) ≡ true = ap (goes true) e in absurd (clash q (ap (goes true) (within .callers f g (omega arith))))
+
+  walked : {f h n : ℕ} (m : ℕ) → getD (L m) f false ≡ true → Walk sq f h n → getD (L (m + n)) h false ≡ true
+  walked {h = h} m s stay = let e : m ≡ m + 0 = omega arith in subst (λ k. getD (L k) h false ≡ true) e s
+  walked m s (tail {f} {g} e v) = walked m (levels m .closed f s g (tells .tail-at f g ∙ ap (goes false) e)) v
+  walked {h = h} m s (wait {f} {g} {n = n} e v) =
+      let q : suc m + n ≡ m + suc n = omega arith in
+      let k = levels (suc m) .begun g (onward-to waits (tells .wait-size) (L m) count f g (caller f g e) s (tells .wait-at f g ∙ ap (goes true) e)) in
+      subst (λ k. getD (L k) h false ≡ true) q (walked (suc m) k v)
+
+  in-level : {f n : ℕ} → Walk sq 0 f n → getD (L n) f false ≡ true
+  in-level {f} {n} w = let e : 0 + n ≡ n = omega arith in subst (λ k. getD (L k) f false ≡ true) e (walked 0 (levels 0 .begun 0 one-in) w)
+
+  -- no walk goes past an empty level
+  shorter : (k : ℕ) → Empty (L k) → {f n : ℕ} → Walk sq 0 f n → n < k
+  shorter k none {f} {n} w = go (decLt n k)
+    where
+      go : Dec (n < k) → n < k
+      go (yes l) = l
+      go (no l) = let r = prefix w k (omega arith) in absurd (clash (in-level (r .1)) (none (r .0)))
+
+  ends-flat : (k : ℕ) → Empty (L k) → Flat sq
+  ends-flat k none f zero r w = refl
+  ends-flat k none f (suc m) r w = let a = again w k in absurd (omega (arith, a .1, shorter k none (join (r .1) (a .2))))
+
+  ends-depth : (k : ℕ) → Some (L k) → Empty (L (suc k)) → IsDepth sq (suc k)
+  ends-depth k some none =
+      record {
+        last = some .0;
+        most = k;
+        longest = levels k .known (some .0) (some .1);
+        largest = λ f n w. omega (arith, shorter (suc k) none w);
+        one-more = refl;
+      }
+
+  deep : {D R : ℕ} → Flat sq → IsDepth sq D → IsReached sq R → Some (L R) → ⊥
+  deep {R = R} f d r s = omega (arith, no-deeper f d r, d .one-more, d .largest (s .0) R (levels R .known (s .0) (s .1)))
+
+  -- the verdict by levels is the verdict by walks
+  same-shape : {s : Shape} → Judged sq s → {R : ℕ} → IsReached sq R → {v : Verdict} → Settles tails waits count R v → v ≡ told (ok s)
+  same-shape j i (ends zero all none) = absurd (clash (levels 0 .begun 0 one-in) (none 0))
+  same-shape (as-flat f d r) i (ends (suc k) all none) = ap₂ verdict.Flat (depth-only (ends-depth k (all k (omega arith)) none) d) (reached-only i r)
+  same-shape (as-stacked n r) i (ends (suc k) all none) = absurd (n (ends-flat (suc k) none))
+  same-shape (as-flat f d r) {R} i (goes-on s) = let e = reached-only i r in absurd (deep f d i s)
+  same-shape (as-stacked n r) i (goes-on s) = ap verdict.Stacked (reached-only i r)
+
+  narrow : count ≤ 32 → Narrow sq
+  narrow c f g l = within .callees f g (omega arith)
+
+  pub settled : count ≤ 32 → {R : ℕ} → IsReached sq R → {v : Verdict} → Settles tails waits count R v → v ≡ told (ok (judge sq))
+  settled c i s = same-shape (judged sq (narrow c)) i s
+
+-- visiting by rows that are the square's is its reach
+module _ (sq : Square) (rows : ℕ → List Bool) (same : (f : ℕ) → f < 32 → rows f ≡ row sq f) where
+  abbrev left : (ℕ → List Bool) → (todo seen : List Bool) → List Bool
+  left r todo seen = zip or (set todo (first todo) false) (except (r (first todo)) seen)
+
+  abbrev met : (ℕ → List Bool) → (todo seen : List Bool) → List Bool
+  met r todo seen = zip or (r (first todo)) seen
+
+  visits-same : (n : ℕ) (todo seen : List Bool) → bits.visits n rows todo seen ≡ calls.visits n sq todo seen
+  unfolding bits.visits calls.visits
+  visits-same zero todo seen = refl
+  visits-same (suc n) todo seen = go (leb 32 (first todo)) refl (visits-same n (left rows todo seen) (met rows todo seen))
+    where
+      go : (b : Bool) → leb 32 (first todo) ≡ b → bits.visits n rows (left rows todo seen) (met rows todo seen) ≡ calls.visits n sq (left rows todo seen) (met rows todo seen)
+          → _≡_ {A = List Bool} (elim b as (λ _. List Bool) [ true ↦ seen | false ↦ bits.visits n rows (left rows todo seen) (met rows todo seen) ])
+          (elim b as (λ _. List Bool) [ true ↦ seen | false ↦ calls.visits n sq (left (row sq) todo seen) (met (row sq) todo seen) ])
+      go true q ih = refl
+      go false q ih =
+          ih ∙ ap (λ r. calls.visits n sq (zip or (set todo (first todo) false) (except r seen)) (zip or r seen)) (same (first todo) (leb-false 32 (first todo) q))
+
+  pub closure-reach : closure rows (bitsOf 32 1) ≡ reach sq
+  unfolding closure reach start bitsOf
+  closure-reach = visits-same 32 (bitsOf 32 1) (bitsOf 32 1)

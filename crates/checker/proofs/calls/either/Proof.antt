@@ -1,0 +1,11 @@
+use Rattle.checker.proofs.calls.either.Statement.{statement}
+use Rattle.checker.proofs.calls.either.Tie as tie
+use Rattle.checker.proofs.calls.either.Reads as reads
+use Rattle.checker.proofs.calls.either.Lts as lts
+use Rattle.checker.proofs.calls.Digits.{or-bits}
+
+returns : tie.Need-returns
+returns c = or-bits 32 (c .args .x) (c .args .y)
+
+pub either-spec : {M : Type 1} → statement M
+either-spec = tie.close (tie.spec returns)

@@ -1,0 +1,34 @@
+use borrow.Author.Needs.{needs}
+use Rattle.checker.proofs.calls.size.Statement.{statement}
+use Rattle.checker.proofs.calls.size.Tie as tie
+use Rattle.checker.proofs.calls.size.Reads as reads
+use Rattle.checker.proofs.calls.size.Lts as lts
+use Rattle.checker.proofs.calls.listed.Reads as listed-reads
+use Rattle.checker.proofs.calls.wide.Reads as wide-reads
+use Rattle.meaning.proofs.mark_row.Reads as mark-row-reads
+use native.Mathlib.Omega.{arith}
+use Rattle.checker.specs.Scan.{size}
+
+mark-row-requires : tie.Need-mark-row-requires
+mark-row-requires c κs = search needs
+
+listed-requires : tie.Need-listed-requires
+listed-requires c κs = search needs
+
+wide-requires : tie.Need-wide-requires
+wide-requires c κs = search needs
+
+add-result : tie.Need-add-result
+add-result c = search needs
+
+add-result-2 : tie.Need-add-result-2
+add-result-2 c = search needs
+
+returns : tie.Need-returns
+unfolding size
+returns c = (rw (c .wide .ensures .0, c .before .before .mark-row .ensures, c .before .listed .ensures .0), omega arith, omega (arith, c .wide .ensures .1, c .before .listed .ensures .1))
+
+pub size-spec : {M : Type 1} → statement M
+size-spec =
+    tie.close
+    (tie.spec mark-row-requires listed-requires wide-requires add-result add-result-2 returns)

@@ -1,0 +1,15 @@
+use borrow.Author.Needs.{needs}
+use Rattle.checker.proofs.calls.without_lowest.Statement.{statement}
+use Rattle.checker.proofs.calls.without_lowest.Tie as tie
+use Rattle.checker.proofs.calls.without_lowest.Reads as reads
+use Rattle.checker.proofs.calls.without_lowest.Lts as lts
+use Rattle.checker.proofs.calls.Digits.{and-low}
+
+sub-result : tie.Need-sub-result
+sub-result c = search needs
+
+returns : tie.Need-returns
+returns c = and-low 32 (c .args .x) (c .pre)
+
+pub without-lowest-spec : {M : Type 1} → statement M
+without-lowest-spec = tie.close (tie.spec sub-result returns)
