@@ -4,7 +4,7 @@ ghost use mathlib.Core.List.{[]};
 ghost use Prim.Native.Nat.{_+_, _*_, _%_, _<_, _≤_};
 ghost use lib.ListN.{length};
 ghost use Rattle.standing.specs.Bytes.{byteAt};
-ghost use Rattle.checker.specs.ReadingBytes.{bindsOf, room, knownArity, knownCount, atomField, makeFields, callFields, openFields, sumFields, fieldsAt, followsAt, nodeAt, moreOf, branchFields, branchAt, numberAt, smallBytes, conAt, funAt, expectAt, finishAt, endAt};
+ghost use Rattle.checker.specs.ReadingBytes.{bindsOf, room, knownArity, knownCount, atomField, makeFields, callFields, openFields, sumFields, fieldsAt, followsAt, limited, nodeAt, moreOf, branchFields, branchAt, numberAt, smallBytes, conAt, funAt, expectAt, finishAt, endAt};
 ghost use Rattle.checker.specs.Reads.{From, ReadsTerm, ReadsBranches};
 ghost use Rattle.checker.specs.Opening.{tableWith, ConsRead, Headed, FunsRead, Bodied, ReadsBody, Ends, FileRead};
 use meaning::AR;
@@ -237,6 +237,34 @@ fn binds(mark: usize) -> usize
     wide(row.binds)
 }
 
+// The node with this mark at `at`, behind its fields: its limits, and what follows it at `next`.
+fn limits(file: &[u8], at: usize, mark: usize, p: Path, next: usize) -> Node
+    requires { ⌜ (at + 2 ≤ length (now file)) × (p .slots ≤ 32) × (p .nodes ≤ 64) ⌝ }
+    ensures { λ r. ⌜ r ≡ limited (now (file .entry)) at mark p next ⌝ }
+{
+    let slots = p.slots + binds(mark);
+    if NODES <= p.nodes {
+        return Node {
+            then: Then::Fault(5, at),
+            path: p,
+        };
+    }
+    if SLOTS < slots {
+        return Node {
+            then: Then::Fault(5, at),
+            path: p,
+        };
+    }
+    let t = follows(file, at, mark, next);
+    Node {
+        then: t,
+        path: Path {
+            slots: slots,
+            nodes: p.nodes + 1,
+        },
+    }
+}
+
 // The node at a place: its mark, its fields, its limits, and what follows it.
 fn read_node(file: &[u8], decl: &[u32; 128], at: usize, p: Path) -> Node
     requires { ⌜ (at ≤ length (now file)) × (p .slots ≤ 32) × (p .nodes ≤ 64) ⌝ }
@@ -254,29 +282,7 @@ fn read_node(file: &[u8], decl: &[u32; 128], at: usize, p: Path) -> Node
             then: Then::Fault(number, place),
             path: p,
         },
-        Read::Next(next) => {
-            let slots = p.slots + binds(mark);
-            if NODES <= p.nodes {
-                return Node {
-                    then: Then::Fault(5, at),
-                    path: p,
-                };
-            }
-            if SLOTS < slots {
-                return Node {
-                    then: Then::Fault(5, at),
-                    path: p,
-                };
-            }
-            let t = follows(file, at, mark, next);
-            Node {
-                then: t,
-                path: Path {
-                    slots: slots,
-                    nodes: p.nodes + 1,
-                },
-            }
-        }
+        Read::Next(next) => limits(file, at, mark, p, next),
     }
 }
 

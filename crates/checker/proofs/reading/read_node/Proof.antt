@@ -4,16 +4,19 @@ use Rattle.checker.proofs.reading.read_node.Statement.{statement}
 use Rattle.checker.proofs.reading.read_node.Tie as tie
 use Rattle.checker.proofs.reading.read_node.Reads as reads
 use Rattle.checker.proofs.reading.read_node.Lts as lts
-use borrow.Author.Tests.{le-leb, lt-leb, lt-ltb, le-ltb}
-use native.Mathlib.Omega.{arith}
+use Rattle.checker.proofs.reading.fields.Reads as fields-reads
+use Rattle.checker.proofs.reading.limits.Reads as limits-reads
+use Rattle.checker.proofs.reading.pair.Reads as pair-reads
+use Rattle.meaning.proofs.find_mark.Reads as find-mark-reads
+use borrow.Author.Tests.{lt-ltb, le-ltb}
 use Rattle.meaning.specs.Choice.{pick}
-use Rattle.checker.specs.ReadingBytes.{limited, afterFields, nodeOf, nodeAt}
+use Rattle.checker.specs.ReadingBytes.{nodeAt, nodeOf, afterFields}
 
 add-if1 : tie.Need-add-if1
 add-if1 c = search needs
 
 returns : tie.Need-returns
-unfolding nodeAt nodeOf afterFields limited pick
+unfolding nodeAt nodeOf afterFields pick
 returns c = simp (lt-ltb _ _ (c .if1 .taken))
 
 shared-slice-read-pair : tie.Need-shared-slice-read-pair
@@ -40,33 +43,16 @@ enum-known-number c = search needs
 enum-known-next : tie.Need-enum-known-next
 enum-known-next c = search needs
 
-binds-requires : tie.Need-binds-requires
-binds-requires c κs = search needs
-
-add-slots : tie.Need-add-slots
-add-slots c = omega (arith, c .before .binds .ensures .1)
+limits-requires : tie.Need-limits-requires
+limits-requires c κs = search needs
 
 returns-2 : tie.Need-returns-2
-unfolding nodeAt nodeOf afterFields limited pick
-returns-2 c = simp (le-ltb _ _ (c .before .before .before .before .before .before .before .before .before .before .before .before .if1 .left), ← c .before .before .before .before .before .before .before .before .before .pair .ensures, ← c .before .before .before .before .before .before .before .before .find-mark .ensures, ← c .before .before .before .before .before .before .before .fields .ensures, c .before .before .before .before .before .next .given .1, ← c .before .before .before .binds .ensures .0, le-leb _ _ (c .if2 .taken))
+unfolding nodeAt nodeOf afterFields pick
+returns-2 c = simp (le-ltb _ _ (c .before .before .before .before .before .before .before .before .if1 .left), ← c .before .before .before .before .before .pair .ensures, ← c .before .before .before .before .find-mark .ensures, ← c .before .before .before .fields .ensures, c .before .number .given .1)
 
 returns-3 : tie.Need-returns-3
-unfolding nodeAt nodeOf afterFields limited pick
-returns-3 c = simp (le-ltb _ _ (c .before .before .before .before .before .before .before .before .before .before .before .before .before .if1 .left), ← c .before .before .before .before .before .before .before .before .before .before .pair .ensures, ← c .before .before .before .before .before .before .before .before .before .find-mark .ensures, ← c .before .before .before .before .before .before .before .before .fields .ensures, c .before .before .before .before .before .before .next .given .1, ← c .before .before .before .before .binds .ensures .0, lt-leb _ _ (c .before .if2 .left), lt-ltb _ _ (c .if3 .taken))
-
-follows-requires : tie.Need-follows-requires
-follows-requires c κs = search needs
-
-add-t24 : tie.Need-add-t24
-add-t24 c = search needs
-
-returns-4 : tie.Need-returns-4
-unfolding nodeAt nodeOf afterFields limited pick
-returns-4 c = simp (le-ltb _ _ (c .before .before .before .before .before .before .before .before .if1 .left), ← c .before .before .before .before .before .pair .ensures, ← c .before .before .before .before .find-mark .ensures, ← c .before .before .before .fields .ensures, c .before .number .given .1)
-
-returns-5 : tie.Need-returns-5
-unfolding nodeAt nodeOf afterFields limited pick
-returns-5 c = simp (le-ltb _ _ (c .before .before .before .before .before .before .before .before .before .before .before .before .before .before .before .if1 .left), ← c .before .before .before .before .before .before .before .before .before .before .before .before .pair .ensures, ← c .before .before .before .before .before .before .before .before .before .before .before .find-mark .ensures, ← c .before .before .before .before .before .before .before .before .before .before .fields .ensures, c .before .before .before .before .before .before .before .before .next .given .1, ← c .before .before .before .before .before .before .binds .ensures .0, lt-leb _ _ (c .before .before .before .if2 .left), le-ltb _ _ (c .before .before .if3 .left), c .before .follows .ensures)
+unfolding nodeAt nodeOf afterFields pick
+returns-3 c = simp (le-ltb _ _ (c .before .before .before .before .before .before .before .before .before .if1 .left), ← c .before .before .before .before .before .before .pair .ensures, ← c .before .before .before .before .before .find-mark .ensures, ← c .before .before .before .before .fields .ensures, c .before .before .next .given .1) (c .limits .ensures)
 
 pub read-node-spec : {M : Type 1} → statement M
 read-node-spec =
@@ -82,11 +68,6 @@ read-node-spec =
     fields-requires
     enum-known-number
     enum-known-next
-    binds-requires
-    add-slots
+    limits-requires
     returns-2
-    returns-3
-    follows-requires
-    add-t24
-    returns-4
-    returns-5)
+    returns-3)
