@@ -9,6 +9,7 @@ use Rattle.meaning.specs.declared.How.{How}
 use Rattle.meaning.specs.declared.How.the-variants.{Never, Tail, Waits}
 use Rattle.meaning.specs.Choice.{pick}
 use Rattle.meaning.specs.Marks.{rowAt, findMark}
+use Rattle.meaning.specs.Sets.{upto}
 use Rattle.meaning.specs.Calls.{Square, entry, stronger}
 use Rattle.standing.specs.Bytes.{byteAt, markAt, paramsIn, bodyIn}
 use Rattle.checker.specs.Bits.{filled}
@@ -23,6 +24,9 @@ countIn table i = pick (ltb i 128) (getD table i 0 % 256) 0
 
 unfoldable pub listed : (table : List ℕ) → (mark named : ℕ) → ℕ
 listed table m c = pick (eqb m 6) (countIn table c) (pick (eqb m 7) (countIn table (64 + c)) (pick (eqb m 8) (countIn table (64 + c)) 0))
+
+unfoldable pub all-fields : List ℕ
+all-fields = upto 16 (λ m. rowAt m .fields)
 
 unfoldable pub size : (table : List ℕ) → (mark named : ℕ) → ℕ
 size table m c = 2 + rowAt m .fields + listed table m c

@@ -1,11 +1,20 @@
 // Which function calls which and how, as a square, and the verdict that follows from it: flat with its depth, or stacked.
+use meaning::AR;
+use meaning::AT;
+use meaning::BD;
+use meaning::BR;
 use meaning::CL;
+use meaning::CN;
+use meaning::FN;
 use meaning::GV;
 use meaning::How;
 use meaning::IF;
 use meaning::LK;
 use meaning::MK;
+use meaning::ND;
+use meaning::NU;
 use meaning::OP;
+use meaning::OTHER;
 use meaning::TL;
 use meaning::Verdict;
 use meaning::find_mark;
@@ -15,7 +24,7 @@ ghost use mathlib.Core.Bool.{Bool, true, false};
 ghost use mathlib.Core.List.{List, []};
 ghost use Prim.Native.Nat.{_<_, _≤_, _+_, _*_, _%_};
 ghost use lib.ListN.{set, getD, length};
-ghost use Rattle.meaning.specs.Marks.{findMark};
+ghost use Rattle.meaning.specs.Marks.{findMark, rowAt};
 ghost use Rattle.meaning.specs.declared.How.the-variants.{Never};
 ghost use Rattle.meaning.specs.Outcome.{ok};
 ghost use Rattle.meaning.specs.Syntax.{File};
@@ -25,7 +34,7 @@ ghost use Rattle.meaning.specs.Answers.{told};
 ghost use Rattle.standing.specs.Bytes.{byteAt, markAt, paramsIn, bodyIn};
 ghost use Rattle.standing.specs.Table.{Declared};
 ghost use Rattle.checker.specs.Bits.{bitsOf, filled, member, closure, onward, Settles};
-ghost use Rattle.checker.specs.Scan.{how-of, countIn, listed, follow, size, rowIn, squareIn, goes, Counted, Within};
+ghost use Rattle.checker.specs.Scan.{how-of, countIn, all-fields, listed, follow, size, rowIn, squareIn, goes, Counted, Within};
 
 // ---- the records of a body
 
@@ -54,7 +63,7 @@ fn narrow(word: usize) -> u16
 // The place in the table of the mark that stands here.
 fn mark_at(file: &[u8], at: usize) -> usize
     requires { ⌜ at < 4096 ⌝ }
-    ensures { λ r. ⌜ r ≡ findMark (markAt (now (file .entry)) at) ⌝ }
+    ensures { λ r. ⌜ (r ≡ findMark (markAt (now (file .entry)) at)) × (r < 16) ⌝ }
 {
     let high = byte_at(file, at);
     let low = byte_at(file, at + 1);
@@ -110,14 +119,45 @@ fn listed(decl: &[u32; 128], m: usize, named: usize) -> usize
     }
 }
 
-// The bytes of a record, its mark included.
-fn size(decl: &[u32; 128], m: usize, named: usize) -> usize
-    requires { ⌜ named < 256 ⌝ }
-    ensures { λ r. ⌜ (r ≡ size (now (decl .entry)) m named) × (2 ≤ r) × (r < 600) ⌝ }
+// The count of a mark's fixed fields.
+fn fields_of(m: usize) -> u8
+    ensures { λ r. ⌜ r ≡ rowAt m .fields ⌝ }
 {
     let row = mark_row(m);
+    row.fields
+}
+
+// The counts of every mark's fixed fields, looked up in the table of marks once a file.
+fn fields() -> [u8; 16]
+    ensures { λ r. ⌜ r ≡ all-fields ⌝ }
+{
+    [
+        fields_of(CN),
+        fields_of(FN),
+        fields_of(BD),
+        fields_of(ND),
+        fields_of(GV),
+        fields_of(AT),
+        fields_of(MK),
+        fields_of(CL),
+        fields_of(TL),
+        fields_of(OP),
+        fields_of(LK),
+        fields_of(BR),
+        fields_of(NU),
+        fields_of(AR),
+        fields_of(IF),
+        fields_of(OTHER),
+    ]
+}
+
+// The bytes of a record, its mark included.
+fn size(decl: &[u32; 128], fixed: &[u8; 16], m: usize, named: usize) -> usize
+    requires { ⌜ (m < 16) × (named < 256) × (now fixed ≡ all-fields) ⌝ }
+    ensures { λ r. ⌜ (r ≡ size (now (decl .entry)) m named) × (2 ≤ r) × (r < 600) ⌝ }
+{
     let slots = listed(decl, m, named);
-    2 + wide(row.fields) + slots
+    2 + wide(fixed[m]) + slots
 }
 
 // How many terms follow a record.
@@ -164,8 +204,8 @@ fn stronger(a: How, b: How) -> How
 }
 
 // A function's row: the records of its body stand one after the other, until no term is left to begin.
-fn row_of(file: &[u8], decl: &[u32; 128], f: usize) -> [How; 32]
-    requires { ⌜ (length (now file) ≤ 4096) × (f < 32) ⌝ }
+fn row_of(file: &[u8], decl: &[u32; 128], fixed: &[u8; 16], f: usize) -> [How; 32]
+    requires { ⌜ (length (now file) ≤ 4096) × (f < 32) × (now fixed ≡ all-fields) ⌝ }
     ensures { λ r. ⌜ r ≡ rowIn (now (file .entry)) (now (decl .entry)) f ⌝ }
 {
     let mut row = [How::Never; 32];
@@ -185,7 +225,7 @@ fn row_of(file: &[u8], decl: &[u32; 128], f: usize) -> [How; 32]
         }
         let branches = byte_at(file, at + 3);
         left = left - 1 + follow(m, branches);
-        at = at + size(decl, m, named);
+        at = at + size(decl, fixed, m, named);
     }
     row
 }
@@ -195,10 +235,11 @@ fn square_of(file: &[u8], decl: &[u32; 128], count: usize) -> [[How; 32]; 32]
     requires { ⌜ (length (now file) ≤ 4096) × (count ≤ 32) ⌝ }
     ensures { λ r. ⌜ r ≡ squareIn (now (file .entry)) (now (decl .entry)) count ⌝ }
 {
+    let fixed = fields();
     let mut square = [[How::Never; 32]; 32];
     let mut f: usize = 0;
     while f < count {
-        let row = row_of(file, decl, f);
+        let row = row_of(file, decl, &fixed, f);
         square[f] = row;
         f += 1;
     }

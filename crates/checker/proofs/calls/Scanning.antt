@@ -3,14 +3,42 @@ use Prim.Native.Nat.{ℕ, zero, suc, _+_, _-_, _≤_, _<_}
 use mathlib.Core.List.{List}
 use mathlib.Core.Path.{_≡_, refl, sym, ap, _∙_}
 use native.Mathlib.Omega.{arith}
-use lib.ListN.{length}
+use lib.ListN.{length, getD}
 use lib.Dec.{leb, eqb}
 use borrow.Author.Tests.{le-leb, lt-leb, eq-eqb, ne-eqb}
 use Rattle.meaning.specs.declared.How.{How}
 use Rattle.meaning.specs.Choice.{pick}
-use Rattle.meaning.specs.Marks.{findMark}
+use Rattle.meaning.specs.Marks.{Mark, CN, FN, BD, ND, GV, AT, MK, CL, TL, OP, LK, BR, NU, AR, IF, other, rowAt, numberOf, markOf, findMark}
 use Rattle.standing.specs.Bytes.{byteAt, markAt}
-use Rattle.checker.specs.Scan.{size, follow, note, scanStep, scan, scanFrom}
+use Rattle.theory.proofs.Bools.{upto-at}
+use Rattle.checker.specs.Scan.{all-fields, size, follow, note, scanStep, scan, scanFrom}
+
+number-small : (m : Mark) → numberOf m < 16
+unfolding numberOf
+number-small CN = omega arith
+number-small FN = omega arith
+number-small BD = omega arith
+number-small ND = omega arith
+number-small GV = omega arith
+number-small AT = omega arith
+number-small MK = omega arith
+number-small CL = omega arith
+number-small TL = omega arith
+number-small OP = omega arith
+number-small LK = omega arith
+number-small BR = omega arith
+number-small NU = omega arith
+number-small AR = omega arith
+number-small IF = omega arith
+number-small other = omega arith
+
+pub mark-small : (w : ℕ) → findMark w < 16
+unfolding findMark
+mark-small w = number-small (markOf w)
+
+pub all-fields-at : (m : ℕ) → m < 16 → getD all-fields m 0 ≡ rowAt m .fields
+unfolding all-fields
+all-fields-at m l = upto-at 16 (λ i. rowAt i .fields) m 0 l
 
 size-least : (table : List ℕ) (m c : ℕ) → 2 ≤ size table m c
 unfolding size

@@ -8,7 +8,10 @@ use Rattle.checker.proofs.calls.narrow.Reads as narrow-reads
 use Rattle.meaning.proofs.find_mark.Reads as find-mark-reads
 use Prim.Native.Nat.{_+_, _*_}
 use mathlib.Core.Path.{ap, ap₂, _∙_}
+use native.Mathlib.Omega.{arith}
 use Rattle.meaning.specs.Marks.{findMark}
+use Rattle.standing.specs.Bytes.{markAt}
+use Rattle.checker.proofs.calls.Scanning.{mark-small}
 
 byte-at-requires : tie.Need-byte-at-requires
 byte-at-requires c κs = search needs
@@ -32,7 +35,10 @@ find-mark-requires : tie.Need-find-mark-requires
 find-mark-requires c κs = search needs
 
 returns : tie.Need-returns
-returns c = c .find-mark .ensures ∙ ap findMark (c .before .narrow .ensures ∙ ap₂ (λ a b. a * 256 + b) (c .before .before .before .byte-at .ensures .0) (c .before .before .byte-at2 .ensures .0))
+returns c =
+    let w = markAt (c .before .before .before .before .before .args .file .now) (c .before .before .before .before .before .args .at) in
+    let e = c .find-mark .ensures ∙ ap findMark (c .before .narrow .ensures ∙ ap₂ (λ a b. a * 256 + b) (c .before .before .before .byte-at .ensures .0) (c .before .before .byte-at2 .ensures .0)) in
+    (e, omega (arith, e, mark-small w))
 
 pub mark-at-spec : {M : Type 1} → statement M
 mark-at-spec =

@@ -10,9 +10,10 @@ use Rattle.checker.proofs.calls.mark_at.Reads as mark-at-reads
 use Rattle.checker.proofs.calls.size.Reads as size-reads
 use Rattle.checker.proofs.calls.stronger.Reads as stronger-reads
 use borrow.Author.Needs.{needs}
-use Prim.Native.Nat.{_+_, _-_, _*_, _≤_}
-use mathlib.Core.Path.{_≡_, refl, sym, ap, _∙_}
+use Prim.Native.Nat.{ℕ, zero, suc, _+_, _-_, _*_, _≤_, _<_}
+use mathlib.Core.Path.{_≡_, refl, sym, ap, ap₂, _∙_}
 use mathlib.Core.Logic.{⊎-elim}
+use mathlib.Core.List.{List}
 use native.Mathlib.Omega.{arith}
 use lib.ListN.{length, getD, set, length-set}
 use lib.Seq.{set-out}
@@ -22,10 +23,10 @@ use Rattle.checker.specs.Scan.{how-of, size, follow, note, scanFrom, no-
 use Rattle.checker.proofs.calls.Scanning.{scan-stop, scan-end, scan-turn}
 
 abbrev Inv-loop : tie.InvT-loop
-Inv-loop file decl f row₀ at₀ left₀ row at left = (left ≤ 1 + 256 * at) × (length row ≡ 32) × (rowIn file decl f ≡ scanFrom file decl at left row)
+Inv-loop file decl fixed f row₀ at₀ left₀ row at left = (left ≤ 1 + 256 * at) × (length row ≡ 32) × (rowIn file decl f ≡ scanFrom file decl at left row)
 
 abbrev μ-loop : tie.MeasureT-loop
-μ-loop file decl f row₀ at₀ left₀ row at left = length file - at
+μ-loop file decl fixed f row₀ at₀ left₀ row at left = length file - at
 
 body-requires : tie.Need-body-requires Inv-loop μ-loop
 body-requires c κs = search needs
@@ -74,7 +75,7 @@ add-left : tie.Need-add-left Inv-loop μ-loop
 add-left c = search needs
 
 size-requires : tie.Need-size-requires Inv-loop μ-loop
-size-requires c κs = search needs
+size-requires c κs = (c .before .before .before .before .before .mark-at .ensures .1, c .before .before .before .before .byte-at .ensures .1, c .before .before .before .before .before .before .before .before .before .before .before .pre .2)
 
 add-at : tie.Need-add-at Inv-loop μ-loop
 add-at c = search needs
@@ -93,7 +94,7 @@ loop-again c =
     let named = c .before .before .before .before .before .byte-at .result in (
       omega (arith, c .size .ensures .1, c .before .follow .ensures .1),
       ⊎-elim (λ w. ap length (w .3) ∙ length-set (c .before .before .before .before .before .before .before .before .before .loop .row) named (w .2 .result) ∙ c .before .before .before .before .before .before .before .before .before .loop .inv .1) (λ w. ap length (w .1) ∙ c .before .before .before .before .before .before .before .before .before .loop .inv .1) (c .before .before .before .if2 .came),
-      c .before .before .before .before .before .before .before .before .before .loop .inv .2 ∙ scan-turn bytes table at left (c .before .before .before .before .before .before .before .before .before .loop .row) m named (c .before .before .byte-at2 .result) (c .before .before .before .before .before .before .mark-at .ensures) (c .before .before .before .before .before .byte-at .ensures .0) (c .before .before .byte-at2 .ensures .0) (omega arith) (c .before .before .before .before .before .before .before .if1 .left)
+      c .before .before .before .before .before .before .before .before .before .loop .inv .2 ∙ scan-turn bytes table at left (c .before .before .before .before .before .before .before .before .before .loop .row) m named (c .before .before .byte-at2 .result) (c .before .before .before .before .before .before .mark-at .ensures .0) (c .before .before .before .before .before .byte-at .ensures .0) (c .before .before .byte-at2 .ensures .0) (omega arith) (c .before .before .before .before .before .before .before .if1 .left)
           ∙ rw (c .before .follow .ensures .0, c .size .ensures .0) (ap (scanFrom bytes table (at + size table m named) (left - 1 + follow m (c .before .before .byte-at2 .result)))
           (⊎-elim
           (λ w. sym (w .3 ∙ ap (set (c .before .before .before .before .before .before .before .before .before .loop .row) named) (w .2 .ensures ∙ ap (stronger (getD (c .before .before .before .before .before .before .before .before .before .loop .row) named Never)) (c .before .before .before .before .how-of .ensures))))
