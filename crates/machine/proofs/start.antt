@@ -1,2 +1,4 @@
 pub mod Turns
 pub mod Fine
+pub mod Fields
+pub mod Told
