@@ -83,7 +83,8 @@ module _ (bytes table store : List ℕ) where
         pick (allFrom (λ i. argFine bytes table store (modeAt bytes table i) (getD args i 0)) (length args) 0)
         (pick (allFrom (λ i. insideFine bytes table store (getD (allArea (ownedArea work) .work) (1024 + i) 0)) (allArea (ownedArea work) .tail) 0)
         (pick (allFrom (λ i. usedOnce (allArea (ownedArea work) .work) (getD (allArea (ownedArea work) .work) (1024 + i) 0)) (ownedArea work .tail) 0)
-        (pick (ltb (freeArea (allArea (ownedArea work) .work) .tail) (allArea (ownedArea work) .tail)) 24 0) 23) 22) 22
+        (pick (allFrom (λ i. usedOnce (allArea (ownedArea work) .work) (getD (allArea (ownedArea work) .work) (1024 + i) 0)) (allArea (ownedArea work) .tail) 0) 0
+        (pick (ltb (freeArea (allArea (ownedArea work) .work) .tail) (allArea (ownedArea work) .tail)) 24 0)) 23) 22) 22
 
 -- an answer as the meaning has it
 unfoldable pub outcome : ℕ → Outcome (Unit {0})
