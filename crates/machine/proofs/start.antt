@@ -6,3 +6,4 @@ pub mod Simulate
 pub mod Cleared
 pub mod Single
 pub mod Answer
+pub mod Joined

@@ -1,11 +1,16 @@
 -- The walks of the start check in the work area: from `base` on a count for each cell, and from `base + 1024` on the queue. Assumes nothing.
-use Prim.Native.Nat.{ℕ, zero, suc, _+_, _-_, _*_, _/_, _%_}
-use mathlib.Core.List.{List, [], _∷_}
-use mathlib.Core.Bool.{Bool, true, false}
+use Prim.Native.Nat.{ℕ, zero, suc, _+_, _-_, _*_, _/_, _%_, _≤_}
+use mathlib.Core.Path.{_≡_}
+use mathlib.Core.List.{List}
+use mathlib.Core.Bool.{Bool, false}
 use lib.Dec.{eqb, leb, ltb}
 use lib.ListN.{length, getD, set}
 use Rattle.meaning.specs.Choice.{pick}
 use Rattle.meaning.specs.Outcome.{Outcome, ok, refuse}
+use Rattle.meaning.specs.Syntax.{File}
+use Rattle.meaning.specs.Start.{start}
+use Rattle.standing.specs.Bytes.{paramsIn}
+use Rattle.standing.specs.Table.{Declared}
 use Rattle.machine.specs.StartWords.{sortAt, wordFine, kindOf, insideFine, modeAt, argFine, allFrom}
 
 pub record Area : Type 0 where
@@ -37,6 +42,11 @@ cleared base (suc n) l = set (cleared base n l) (base + n) 0
 
 unfoldable pub usedOnce : List ℕ → ℕ → Bool
 usedOnce work c = pick (leb 1024 c) false (leb (getD work c 0) 1)
+
+-- the answer by the tests: of the arguments, of the cells, of namings of the cells that owned arguments reach, of namings of all; and by
+-- whether cells are held back
+unfoldable pub judged : (args cells owned all held : Bool) → ℕ
+judged args cells owned all held = pick args (pick cells (pick owned (pick all 0 (pick held 24 0)) 23) 22) 22
 
 module _ (bytes table store : List ℕ) where
   unfoldable pub nameAt : ℕ → Area → ℕ → Area
@@ -77,15 +87,32 @@ module _ (bytes table store : List ℕ) where
         drainAt 2048 1024 0
         (argsAt 2048 args 1 (length args) 0 (argsAt 2048 args 2 (length args) 0 (area (cleared 2048 (length store / 5) work) 0)))
 
+    -- the tests on the areas after the three walks
+    unfoldable pub answerAt : (o a f : Area) → ℕ
+    answerAt o a f =
+        judged (allFrom (λ i. argFine bytes table store (modeAt bytes table i) (getD args i 0)) (length args) 0)
+        (allFrom (λ i. insideFine bytes table store (getD (a .work) (1024 + i) 0)) (a .tail) 0)
+        (allFrom (λ i. usedOnce (a .work) (getD (a .work) (1024 + i) 0)) (o .tail) 0)
+        (allFrom (λ i. usedOnce (a .work) (getD (a .work) (1024 + i) 0)) (a .tail) 0)
+        (ltb (f .tail) (a .tail))
+
     -- what the code answers
     unfoldable pub startAt : List ℕ → ℕ
-    startAt work =
-        pick (allFrom (λ i. argFine bytes table store (modeAt bytes table i) (getD args i 0)) (length args) 0)
-        (pick (allFrom (λ i. insideFine bytes table store (getD (allArea (ownedArea work) .work) (1024 + i) 0)) (allArea (ownedArea work) .tail) 0)
-        (pick (allFrom (λ i. usedOnce (allArea (ownedArea work) .work) (getD (allArea (ownedArea work) .work) (1024 + i) 0)) (ownedArea work .tail) 0)
-        (pick (allFrom (λ i. usedOnce (allArea (ownedArea work) .work) (getD (allArea (ownedArea work) .work) (1024 + i) 0)) (allArea (ownedArea work) .tail) 0) 0
-        (pick (ltb (freeArea (allArea (ownedArea work) .work) .tail) (allArea (ownedArea work) .tail)) 24 0)) 23) 22) 22
+    startAt work = answerAt (ownedArea work) (allArea (ownedArea work)) (freeArea (allArea (ownedArea work) .work))
 
 -- an answer as the meaning has it
 unfoldable pub outcome : ℕ → Outcome (Unit {0})
 outcome n = pick (eqb n 0) (ok tt) (refuse n 0)
+
+-- what is known where 1 to 21 do not apply: a file that its table tells of, and sizes that fit
+pub record Passed (bytes table args store work : List ℕ) : Type 0 where
+  pub room : 4096 ≤ length work
+  pub fits : length store ≤ 5120
+  pub whole : length store % 5 ≡ 0
+  pub given : length args ≡ paramsIn table 0
+  pub tree : File
+  pub declared : Declared tree bytes table
+
+-- an answer is the meaning's, whatever file the table tells of
+abbrev pub Meant : (bytes table args store work : List ℕ) → ℕ → Type 0
+Meant bytes table args store work r = (tree : File) → Declared tree bytes table → outcome r ≡ start tree (length work) args store

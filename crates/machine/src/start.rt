@@ -1,10 +1,10 @@
 // The start of a run: answers 22, 23 and 24.
 ghost use mathlib.Core.Path.{_≡_};
-ghost use Prim.Native.Nat.{_+_, _*_, _%_, _/_, _<_, _≤_};
+ghost use Prim.Native.Nat.{_+_, _/_, _<_, _≤_};
 ghost use lib.ListN.{length, getD};
-ghost use Rattle.standing.specs.Bytes.{byteAt, paramsIn};
+ghost use Rattle.standing.specs.Bytes.{byteAt};
 ghost use Rattle.machine.specs.StartWords.{sortAt, numberFine, cellFine, wordFine, fieldFine, insideFine, modeAt, argFine, allFrom};
-ghost use Rattle.machine.specs.StartArea.{area, bumpTo, bump, cleared, usedOnce, nameAt, fieldAt, expandAt, drainAt, argsAt};
+ghost use Rattle.machine.specs.StartArea.{area, bumpTo, bump, cleared, usedOnce, nameAt, fieldAt, expandAt, drainAt, argsAt, ownedArea, allArea, freeArea, Passed, Meant};
 ghost use Rattle.meaning.specs.Answers.{wiped};
 
 // A byte of the file, 0 past its end.
@@ -393,4 +393,99 @@ fn used_once(work: &[u32], tail: usize) -> bool
         i += 1;
     }
     true
+}
+
+// The cells that owned arguments reach are queued; their count comes back.
+fn walk_owned(
+    file: &[u8],
+    decl: &[u32; 128],
+    store: &[u32],
+    args: &[u32],
+    work: &mut [u32],
+) -> usize
+    requires { ⌜ (4096 ≤ length (now work)) × (length (now store) ≤ 5120) × (length (now args) ≤ 255) ⌝ }
+    ensures { λ r. ⌜ (area (now (work .exit)) r ≡ ownedArea (now (file .entry)) (now (decl .entry)) (now (store .entry)) (now (args .entry)) (now (work .entry))) × (r ≤ 1024) ⌝ }
+{
+    clear(work, 0, store.len() / 5);
+    let t = name_args(file, decl, store, args, work, 0, 0, 2);
+    drain_queue(file, decl, store, work, 0, 0, t)
+}
+
+// The further cells that lent arguments reach are queued behind those.
+fn walk_lent(
+    file: &[u8],
+    decl: &[u32; 128],
+    store: &[u32],
+    args: &[u32],
+    work: &mut [u32],
+    owned: usize,
+) -> usize
+    requires { ⌜ (4096 ≤ length (now work)) × (length (now store) ≤ 5120) × (length (now args) ≤ 255) × (owned ≤ 1024) ⌝ }
+    ensures { λ r. ⌜ (area (now (work .exit)) r ≡ allArea (now (file .entry)) (now (decl .entry)) (now (store .entry)) (now (args .entry)) (area (now (work .entry)) owned)) × (r ≤ 1024) ⌝ }
+{
+    let t = name_args(file, decl, store, args, work, 0, owned, 1);
+    drain_queue(file, decl, store, work, 0, owned, t)
+}
+
+// The cells that no cycle holds back: each is queued at its last naming.
+fn walk_free(file: &[u8], decl: &[u32; 128], store: &[u32], args: &[u32], work: &mut [u32]) -> usize
+    requires { ⌜ (4096 ≤ length (now work)) × (length (now store) ≤ 5120) × (length (now args) ≤ 255) ⌝ }
+    ensures { λ r. ⌜ (area (now (work .exit)) r ≡ freeArea (now (file .entry)) (now (decl .entry)) (now (store .entry)) (now (args .entry)) (now (work .entry))) × (r ≤ 1024) ⌝ }
+{
+    clear(work, 2048, store.len() / 5);
+    let t = name_args(file, decl, store, args, work, 2048, 0, 2);
+    let u = name_args(file, decl, store, args, work, 2048, t, 1);
+    drain_queue(file, decl, store, work, 2048, 0, u)
+}
+
+// Answers 22, 23 and 24, or 0; only the first 4,096 words of the work area are changed.
+pub(crate) fn start_answer(
+    file: &[u8],
+    decl: &[u32; 128],
+    args: &[u32],
+    store: &[u32],
+    work: &mut [u32],
+) -> u32
+    requires { ⌜ Passed (now file) (now decl) (now args) (now store) (now work) ⌝ }
+    ensures { λ r. ⌜ Meant (now (file .entry)) (now (decl .entry)) (now (args .entry)) (now (store .entry)) (now (work .entry)) r × (wiped 4096 (now (work .exit)) ≡ wiped 4096 (now (work .entry))) ⌝ }
+{
+    let fine = args_fine(file, decl, store, args);
+    if !fine {
+        return 22;
+    }
+    let owned = walk_owned(file, decl, store, args, work);
+    let all = walk_lent(file, decl, store, args, work, owned);
+    let inner = cells_fine(file, decl, store, work, all);
+    if !inner {
+        return 22;
+    }
+    let own = used_once(work, owned);
+    if !own {
+        return 23;
+    }
+    let single = used_once(work, all);
+    if single {
+        return 0;
+    }
+    let free = walk_free(file, decl, store, args, work);
+    if free < all {
+        return 24;
+    }
+    0
+}
+
+// The same, and the first 4,096 words of the work area are left zero.
+pub(crate) fn start_check(
+    file: &[u8],
+    decl: &[u32; 128],
+    args: &[u32],
+    store: &[u32],
+    work: &mut [u32],
+) -> u32
+    requires { ⌜ Passed (now file) (now decl) (now args) (now store) (now work) ⌝ }
+    ensures { λ r. ⌜ Meant (now (file .entry)) (now (decl .entry)) (now (args .entry)) (now (store .entry)) (now (work .entry)) r × (now (work .exit) ≡ wiped 4096 (now (work .entry))) ⌝ }
+{
+    let r = start_answer(file, decl, args, store, work);
+    wipe(work);
+    r
 }

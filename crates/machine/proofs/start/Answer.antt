@@ -1,31 +1,29 @@
 -- What the code answers at the start is the meaning's answer, and the work area is changed in its first 4,096 words alone. Assumes nothing.
-use Prim.Native.Nat.{ℕ, zero, suc, _+_, _-_, _*_, _/_, _%_, _≤_, _<_}
+use Prim.Native.Nat.{ℕ, zero, suc, _+_, _*_, _/_, _%_, _≤_, _<_}
 use mathlib.Core.Path.{_≡_, refl, sym, ap, ap₂, _∙_, subst}
-use mathlib.Core.Logic.{_⊎_, ⊎-elim}
+use mathlib.Core.Logic.{⊎-elim}
 use mathlib.Core.List.{List, [], _∷_, _++_, append-assoc}
 use mathlib.Core.Bool.{Bool, true, false, not, _||_, true≢false}
 use native.Mathlib.Omega.{arith}
 use lib.Dec.{eqb, leb, ltb}
 use lib.ListN.{length, getD, drop, length-append, List·getD-append}
 use lib.Seq.{drop-cons}
-use borrow.Author.Tests.{le-leb, lt-leb, leb-true, lt-ltb, le-ltb, ltb-false, eq-eqb, not-true}
+use borrow.Author.Tests.{le-leb, lt-leb, lt-ltb, le-ltb, ltb-false, eq-eqb}
 use Rattle.meaning.specs.Choice.{pick}
-use Rattle.meaning.specs.Syntax.{Mode, Constructor, File}
-use Rattle.meaning.specs.Outcome.{Outcome, ok, refuse}
+use Rattle.meaning.specs.Syntax.{Mode, Constructor}
 use Rattle.meaning.specs.Answers.{wiped}
-use Rattle.meaning.specs.Walk.{count, Walk, walk, visits, drain}
+use Rattle.meaning.specs.Walk.{count, walk, visits, drain}
 use Rattle.meaning.specs.Machine.{function-of}
 use Rattle.meaning.specs.Start.{any, is-number, word-ok, inside, named, kids, owned-walk, all-walk, free-walk, chosen, is-numeric, is-owned, is-lent, first, start}
-use Rattle.standing.specs.Bytes.{byteAt, paramsIn}
-use Rattle.standing.specs.Table.{Modes, mode-byte, Declared}
-use Rattle.theory.proofs.StartCounting.{bool?, le?, count-at}
+use Rattle.standing.specs.Bytes.{paramsIn}
+use Rattle.standing.specs.Table.{Modes, mode-byte}
+use Rattle.theory.proofs.StartCounting.{le?, count-at}
 use Rattle.theory.proofs.StartWalk.{visits-grows}
 use Rattle.theory.proofs.StartReached.{drain-grows}
 use Rattle.theory.proofs.StartWords.{any-false}
 use Rattle.machine.specs.StartWords.{wordFine, insideFine, modeAt, argFine, allFrom}
-use Rattle.machine.specs.StartArea.{Area, area, cleared, usedOnce, drainAt, argsAt, ownedArea, allArea, freeArea, startAt, outcome}
+use Rattle.machine.specs.StartArea.{Area, area, cleared, usedOnce, drainAt, argsAt, ownedArea, allArea, freeArea, judged, answerAt, startAt, outcome}
 use Rattle.machine.proofs.start.Fine.{fine-cell}
-use Rattle.machine.proofs.start.Fields.{and-or}
 use Rattle.machine.proofs.start.Told.{Ground, word-is, inside-is}
 use Rattle.machine.proofs.start.Simulate.{Rep, Aim, goalOf, drain-rep, args-rep, begin-rep, con-there}
 use Rattle.machine.proofs.start.Cleared.{cleared-length, cleared-zero, cleared-under, cleared-over, wiped-same}
@@ -69,9 +67,9 @@ swap₃ false false false z = refl
 
 -- ---- the answer, by the tests
 ends : (x y z w v p u : Bool) → (p ≡ false → u ≡ false)
-    → outcome (pick (fine3 x y z) (pick (not w) (pick (not v) (pick (not p) 0 (pick u 24 0)) 23) 22) 22)
+    → outcome (judged (fine3 x y z) (not w) (not v) (not p) u)
     ≡ first ((x || (y || (z || w)), 22) ∷ (v, 23) ∷ (u, 24) ∷ [])
-unfolding outcome fine3 first pick
+unfolding outcome judged fine3 first pick
 ends true y z w v p u h = refl
 ends false true z w v p u h = refl
 ends false false true w v p u h = refl
@@ -311,7 +309,7 @@ module _ (bytes table store args : List ℕ) (g : Ground bytes table store) wher
     not-21 = rw (eq-eqb (length args) (length ms) (sym many))
 
     pub start-is : outcome (startAt bytes table store args work) ≡ start (g .file) (length work) args store
-    unfolding startAt start held
+    unfolding startAt answerAt start held
     start-is =
         rw (args-test (length args) 0 ms many (omega arith) listed, inside-test, owned-test, all-test, free-rep .tails, all-rep .tails)
         (ends (any (λ w. not (is-number w)) numbers) (any bad owned) (any bad lent) (any (λ c. any bad (inside cs store c)) queue)

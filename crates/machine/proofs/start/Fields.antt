@@ -1,16 +1,15 @@
 -- The fields of a constructor by their bytes: what a test of the four fields says of the sorts that are declared. Assumes nothing.
-use Prim.Native.Nat.{ℕ, zero, suc, _+_, _-_, _*_, _/_, _%_, _≤_, _<_}
-use mathlib.Core.Path.{_≡_, refl, sym, ap, ap₂, _∙_, subst}
+use Prim.Native.Nat.{ℕ, zero, suc, _+_, _*_, _/_, _%_, _≤_}
+use mathlib.Core.Path.{_≡_, refl, ap, ap₂, _∙_, subst}
 use mathlib.Core.List.{List, [], _∷_}
 use mathlib.Core.Bool.{Bool, true, false, not, _||_}
 use native.Mathlib.Omega.{arith}
-use lib.Dec.{eqb, leb, ltb}
+use lib.Dec.{ltb}
 use lib.ListN.{length, getD}
-use borrow.Author.Tests.{le-leb, lt-leb, eq-eqb}
+use borrow.Author.Tests.{le-leb, lt-leb}
 use Rattle.meaning.specs.Choice.{pick}
 use Rattle.meaning.specs.Syntax.{Sort, Constructor}
 use Rattle.meaning.specs.Start.{any, is-number, number-words, tree-words}
-use Rattle.standing.specs.Bytes.{byteAt}
 use Rattle.standing.specs.Table.{Sorts, sort-byte}
 use Rattle.machine.specs.StartWords.{sortAt, numberFine, fieldFine, wordFine, allFrom}
 

@@ -1,22 +1,21 @@
 -- A walk in the work area is the walk over lists of the meaning. Assumes nothing.
 use Prim.Native.Nat.{ℕ, zero, suc, _+_, _-_, _*_, _/_, _%_, _≤_, _<_}
 use mathlib.Core.Path.{_≡_, refl, sym, ap, _∙_, subst}
-use mathlib.Core.Logic.{_⊎_, ⊎-elim}
-use mathlib.Core.List.{List, [], _∷_, _++_}
+use mathlib.Core.Logic.{⊎-elim}
+use mathlib.Core.List.{List, [], _∷_}
 use mathlib.Core.Bool.{Bool, true, false}
 use native.Mathlib.Omega.{arith}
-use lib.Dec.{eqb, leb, ltb}
+use lib.Dec.{eqb}
 use lib.ListN.{length, getD, set, drop, length-append, length-set, List·getD-append}
 use lib.Seq.{getD-set-same, getD-set-other, getD-at, drop-cons}
 use borrow.Author.Tests.{le-leb, lt-leb, le-ltb, eq-eqb, ne-eqb}
 use Rattle.meaning.specs.Choice.{pick}
-use Rattle.meaning.specs.Syntax.{Sort, Mode, Constructor, File}
+use Rattle.meaning.specs.Syntax.{Sort, Mode, Constructor}
 use Rattle.meaning.specs.Walk.{count, Walk, walk, visit, visits, drain}
 use Rattle.meaning.specs.Machine.{cell}
-use Rattle.meaning.specs.Start.{word-ok, inside, tree-words, named, kids, chosen}
-use Rattle.standing.specs.Bytes.{byteAt}
+use Rattle.meaning.specs.Start.{word-ok, tree-words, named, kids, chosen}
 use Rattle.standing.specs.Table.{Modes, mode-byte}
-use Rattle.theory.proofs.Reached.{one-if, count-cons}
+use Rattle.theory.proofs.Reached.{count-cons}
 use Rattle.theory.proofs.StartCounting.{same?, le?, bool?, one-same, one-other, few, count-at}
 use Rattle.theory.proofs.StartWalk.{Kept, visit-kept, taken, passed, met, met-count}
 use Rattle.theory.proofs.StartWords.{named-cell, named-bad, named-atom}
@@ -208,9 +207,11 @@ module _ (bytes table store : List ℕ) (g : Ground bytes table store) (base : �
       (λ (h : 65536 ≤ w).
       ⊎-elim
       (λ (f : wordFine bytes table store w ≡ true).
-      let e : 65536 + (w - 65536) ≡ w = omega arith in
-      (visit t s (w - 65536), visited-cell s w ws h (sym (word-is bytes table store g w) ∙ f),
-      rw (le-leb 65536 w h, f) (bump-rep m s a (w - 65536) hm (ap (wordFine bytes table store) e ∙ f) r)))
+      let e : 65536 + (w - 65536) ≡ w = omega arith in (
+        visit t s (w - 65536),
+        visited-cell s w ws h (sym (word-is bytes table store g w) ∙ f),
+        rw (le-leb 65536 w h, f) (bump-rep m s a (w - 65536) hm (ap (wordFine bytes table store) e ∙ f) r),
+      ))
       (λ (f : wordFine bytes table store w ≡ false).
       (s, visited-bad s w ws h (sym (word-is bytes table store g w) ∙ f), rw (le-leb 65536 w h, f) (more-rep m (suc m) s a (omega arith) r)))
       (bool? (wordFine bytes table store w)))

@@ -1,17 +1,17 @@
 -- Where no reachable cell is named twice, no cell is held back: each is named by one place, and that is met before. Assumes nothing.
-use Prim.Native.Nat.{ℕ, zero, suc, _+_, _-_, _*_, _≤_, _<_}
-use mathlib.Core.Path.{_≡_, refl, sym, ap, _∙_}
+use Prim.Native.Nat.{ℕ, _+_, _≤_, _<_}
+use mathlib.Core.Path.{_≡_}
 use mathlib.Core.Logic.{⊎-elim}
-use mathlib.Core.List.{List, [], _∷_, _++_}
+use mathlib.Core.List.{List, _++_}
 use native.Mathlib.Omega.{arith}
 use lib.ListN.{length}
 use Rattle.meaning.specs.Syntax.{Constructor}
 use Rattle.meaning.specs.Machine.{Store}
 use Rattle.meaning.specs.Walk.{count, Walk}
-use Rattle.meaning.specs.Start.{In, word-ok, inside, named, kids, Reached, from, through, all-walk, free-walk}
+use Rattle.meaning.specs.Start.{In, inside, named, kids, Reached, from, through, all-walk, free-walk}
 use Rattle.theory.proofs.Reached.{count-append}
 use Rattle.theory.proofs.StartCounting.{le?, total-ge, length-le}
-use Rattle.theory.proofs.StartWords.{count-fine, reached-fine}
+use Rattle.theory.proofs.StartWords.{count-fine}
 use Rattle.theory.proofs.StartCells.{all-done, free-done, cells-in, cells-out}
 
 module _ (cs : List Constructor) (store : Store) (owned lent : List ℕ) (fits : length store ≤ 5120) where

@@ -1,24 +1,24 @@
 -- Words and cells by a file's bytes and its table are what the meaning says of them by its constructors. Assumes nothing.
 use Prim.Native.Nat.{ℕ, zero, suc, _+_, _-_, _*_, _/_, _%_, _≤_, _<_}
 use mathlib.Core.Path.{_≡_, refl, sym, ap, ap₂, _∙_, subst}
-use mathlib.Core.Logic.{_⊎_, inl, inr, ⊎-elim}
+use mathlib.Core.Logic.{⊎-elim}
 use mathlib.Core.List.{List, [], _∷_}
-use mathlib.Core.Bool.{Bool, true, false, not, _&&_, _||_}
-use mathlib.Core.Option.{Option, none, some}
+use mathlib.Core.Bool.{Bool, true, false, not, _&&_}
+use mathlib.Core.Option.{none, some}
 use native.Mathlib.Omega.{arith}
 use lib.Dec.{eqb, leb, ltb}
 use lib.ListN.{length, getD, getElem?}
-use borrow.Author.Tests.{le-leb, lt-leb, lt-ltb, le-ltb, eq-eqb, ne-eqb}
+use borrow.Author.Tests.{le-leb, lt-leb, lt-ltb, le-ltb, ne-eqb}
 use Rattle.meaning.specs.Choice.{pick}
-use Rattle.meaning.specs.Syntax.{Sort, Constructor, File}
+use Rattle.meaning.specs.Syntax.{Constructor, File}
 use Rattle.meaning.specs.Reading.{is-atom, is-node}
 use Rattle.meaning.specs.Machine.{word-at, cell}
-use Rattle.meaning.specs.Start.{any, holds, is-number, number-words, tree-words, fields-at, cell-ok, word-ok, inside}
-use Rattle.standing.specs.Bytes.{byteAt, arityIn, fieldsIn}
+use Rattle.meaning.specs.Start.{any, holds, is-number, number-words, tree-words, cell-ok, word-ok, inside}
+use Rattle.standing.specs.Bytes.{fieldsIn}
 use Rattle.standing.specs.Table.{Sorts, Declared}
 use Rattle.theory.proofs.StartCounting.{le?}
 use Rattle.theory.proofs.StartWords.{word-atom, word-cell}
-use Rattle.machine.specs.StartWords.{sortAt, numberFine, cellFine, wordFine, kindOf, fieldFine, insideFine, allFrom}
+use Rattle.machine.specs.StartWords.{numberFine, cellFine, wordFine, kindOf, fieldFine, insideFine, allFrom}
 use Rattle.machine.proofs.start.Fields.{Left, numbers-are, trees-are}
 
 -- a file in its bytes and its table, and a store that 20 does not refuse
@@ -175,10 +175,10 @@ module _ (bytes table store : List ℕ) (g : Ground bytes table store) where
   inside-is c s h =
       let k : con c < 64 = omega (arith, g .declared .constructors) in
       let r : pick (fieldFine bytes table store (kindOf table store c) 0 (getD store (5 * c + 1) 0))
-          (pick (fieldFine bytes table store (kindOf table store c) 1 (getD store (5 * c + 2) 0))
-          (pick (fieldFine bytes table store (kindOf table store c) 2 (getD store (5 * c + 3) 0))
-          (fieldFine bytes table store (kindOf table store c) 3 (getD store (5 * c + 4) 0)) false) false) false
-          ≡ not (any (λ w. not (word-ok cs store w)) (tree-words store c 1 (getD cs (con c) []))) =
-          four (λ j. fieldFine bytes table store (kindOf table store c) j (getD store (5 * c + suc j) 0))
-          ∙ trees-are bytes (kindOf table store c) table store (λ w. word-ok cs store w) word-is c 4 0 (getD cs (con c) []) (kind-small (con c)) (kind-left (con c) h) in
+      (pick (fieldFine bytes table store (kindOf table store c) 1 (getD store (5 * c + 2) 0))
+      (pick (fieldFine bytes table store (kindOf table store c) 2 (getD store (5 * c + 3) 0))
+      (fieldFine bytes table store (kindOf table store c) 3 (getD store (5 * c + 4) 0)) false) false) false
+      ≡ not (any (λ w. not (word-ok cs store w)) (tree-words store c 1 (getD cs (con c) []))) =
+      four (λ j. fieldFine bytes table store (kindOf table store c) j (getD store (5 * c + suc j) 0))
+      ∙ trees-are bytes (kindOf table store c) table store (λ w. word-ok cs store w) word-is c 4 0 (getD cs (con c) []) (kind-small (con c)) (kind-left (con c) h) in
       rw (le-ltb (length store) (5 * c + 5) s, lt-leb 64 (con c) k) (r ∙ ap (λ l. not (any (λ w. not (word-ok cs store w)) l)) (sym (inside-by c)))

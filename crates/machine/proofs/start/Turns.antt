@@ -1,15 +1,15 @@
 -- Laws of the loops of the start check: what a turn does to what is still to do. Assumes nothing.
 use Prim.Native.Nat.{ℕ, zero, suc, _+_, _-_, _≤_, _<_}
-use mathlib.Core.Path.{_≡_, refl, sym, ap, _∙_}
-use mathlib.Core.List.{List, [], _∷_}
+use mathlib.Core.Path.{_≡_, refl, ap, _∙_}
+use mathlib.Core.List.{List}
 use mathlib.Core.Bool.{Bool, true, false}
 use native.Mathlib.Omega.{arith}
 use native.Mathlib.Numerals.{add-one}
-use lib.ListN.{length, getD, set}
+use lib.ListN.{getD, set}
 use borrow.Author.Tests.{le-leb, lt-leb, eq-eqb, ne-eqb}
 use Rattle.meaning.specs.Choice.{pick}
 use Rattle.machine.specs.StartWords.{modeAt, allFrom}
-use Rattle.machine.specs.StartArea.{Area, area, cleared, nameAt, expandAt, drainAt, argsAt}
+use Rattle.machine.specs.StartArea.{Area, cleared, nameAt, expandAt, drainAt, argsAt}
 
 pub all-in : (f : ℕ → Bool) (n m i : ℕ) → n ≡ suc m → f i ≡ true → allFrom f n i ≡ allFrom f m (i + 1)
 unfolding allFrom pick
