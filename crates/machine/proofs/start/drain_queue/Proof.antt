@@ -1,0 +1,105 @@
+use Rattle.machine.proofs.start.drain_queue.Statement.{statement}
+use Rattle.machine.proofs.start.drain_queue.Tie as tie
+use Rattle.machine.proofs.start.drain_queue.Reads as reads
+use Rattle.machine.proofs.start.drain_queue.Lts as lts
+use Rattle.machine.proofs.start.expand.Reads as expand-reads
+use Prim.Native.Nat.{_+_, _-_, _≤_}
+use mathlib.Core.Path.{_≡_, refl, sym, ap, _∙_}
+use native.Mathlib.Omega.{arith}
+use lib.ListN.{length}
+use Rattle.machine.specs.StartArea.{area, drainAt}
+use Rattle.machine.proofs.start.Turns.{drain-turn, drain-stay, drain-none}
+
+abbrev Inv-loop : tie.InvT-loop
+Inv-loop file decl store work₀ base head tail t₀ n₀ work t n = (n ≤ 1024) × (t ≤ 1024) × (length work ≡ length work₀) × (drainAt file decl store base 1024 head (area work₀ tail) ≡ drainAt file decl store base (1024 - n) (head + n) (area work t))
+
+abbrev μ-loop : tie.MeasureT-loop
+μ-loop file decl store work₀ base head tail t₀ n₀ work t n = 1024 - n
+
+loop-holds : tie.Need-loop-holds Inv-loop μ-loop
+loop-holds c = let e : c .before .before .before .args .head + 0 ≡ c .before .before .before .args .head = omega arith in (omega arith, omega arith, refl, ap (λ h. drainAt (c .before .before .before .args .file .now) (c .before .before .before .args .decl .now) (c .before .before .before .args .store .now) (c .before .before .before .args .base) 1024 h (area (c .before .before .before .args .work .now) (c .before .before .before .args .tail))) (sym e))
+
+add-h : tie.Need-add-h Inv-loop μ-loop
+add-h c = omega arith
+
+same-length : tie.Need-same-length Inv-loop μ-loop
+same-length c = c .before .before .loop .inv .2
+
+returns : tie.Need-returns Inv-loop μ-loop
+returns c = (sym (c .before .before .loop .inv .3 ∙ drain-stay (c .before .before .before .before .before .before .args .file .now) (c .before .before .before .before .before .before .args .decl .now) (c .before .before .before .before .before .before .args .store .now) (c .before .before .before .before .before .before .args .base) _ _ (area (c .before .before .loop .work) (c .before .before .loop .t)) (c .if1 .taken)), omega arith)
+
+add-c : tie.Need-add-c Inv-loop μ-loop
+add-c c = omega arith
+
+add-c-2 : tie.Need-add-c-2 Inv-loop μ-loop
+add-c-2 c = omega arith
+
+mul-c : tie.Need-mul-c Inv-loop μ-loop
+mul-c c = omega arith
+
+slice-read-c : tie.Need-slice-read-c Inv-loop μ-loop
+slice-read-c c = omega arith
+
+cast-c : tie.Need-cast-c Inv-loop μ-loop
+cast-c c = omega (arith, c .slice-known2 .given (c .before .before .before .before .before .before .before .args .base + 1024 + (c .before .before .before .before .before .before .before .args .head + c .before .before .before .loop .n)))
+
+expand-requires : tie.Need-expand-requires Inv-loop μ-loop
+expand-requires c κs = omega (arith, c .before .slice-known2 .given (c .before .before .before .before .before .before .before .before .args .base + 1024 + (c .before .before .before .before .before .before .before .before .args .head + c .before .before .before .before .loop .n)))
+
+add-n : tie.Need-add-n Inv-loop μ-loop
+add-n c = omega arith
+
+loop-less : tie.Need-loop-less Inv-loop μ-loop
+loop-less c = omega arith
+
+loop-again : tie.Need-loop-again Inv-loop μ-loop
+loop-again c =
+    let f = c .before .before .before .before .before .before .before .before .before .before .before .args .file .now in
+    let d = c .before .before .before .before .before .before .before .before .before .before .before .args .decl .now in
+    let st = c .before .before .before .before .before .before .before .before .before .before .before .args .store .now in
+    let b = c .before .before .before .before .before .before .before .before .before .before .before .args .base in
+    let hd = c .before .before .before .before .before .before .before .before .before .before .before .args .head in
+    let lp = c .before .before .before .before .before .before .before .loop in
+    let e : 1024 - lp .n - 1 ≡ 1024 - (lp .n + 1) = omega arith in
+    let k : hd + lp .n + 1 ≡ hd + (lp .n + 1) = omega arith in (
+      omega arith,
+      c .before .before .expand .ensures .1,
+      c .before .before .expand .kept .1 .1 .1 .0 ∙ lp .inv .2,
+      lp .inv .3 ∙ drain-turn f d st b (1024 - lp .n) (hd + lp .n) (area (lp .work) (lp .t)) (omega arith) (c .before .before .before .before .before .if1 .left) ∙ rw (e, k) (ap (drainAt f d st b (1024 - (lp .n + 1)) (hd + (lp .n + 1))) (sym (c .before .before .expand .ensures .0))),
+    )
+
+same-length-2 : tie.Need-same-length-2 Inv-loop μ-loop
+same-length-2 c = c .before .loop .inv .2
+
+returns-2 : tie.Need-returns-2 Inv-loop μ-loop
+returns-2 c =
+    let f = c .before .before .before .before .before .args .file .now in
+    let d = c .before .before .before .before .before .args .decl .now in
+    let st = c .before .before .before .before .before .args .store .now in
+    let b = c .before .before .before .before .before .args .base in
+    let hd = c .before .before .before .before .before .args .head in
+    let lp = c .before .loop in
+    let e : 1024 - lp .n ≡ 0 = omega arith in
+    (sym (lp .inv .3 ∙ rw e (drain-none f d st b (hd + lp .n) (area (lp .work) (lp .t)))), omega arith)
+
+pub drain-queue-spec : {M : Type 1} → statement M
+drain-queue-spec =
+    tie.close
+    (tie.spec
+    Inv-loop
+    μ-loop
+    loop-holds
+    add-h
+    same-length
+    returns
+    add-c
+    add-c-2
+    mul-c
+    slice-read-c
+    cast-c
+    expand-requires
+    add-n
+    loop-less
+    loop-again
+    same-length-2
+    returns-2)

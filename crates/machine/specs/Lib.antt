@@ -1,0 +1,2 @@
+pub mod StartWords
+pub mod StartArea

@@ -1,0 +1,118 @@
+-- The walks of the start check in the work area: from `base` on a count for each cell, and from `base + 1024` on the queue. Assumes nothing.
+use Prim.Native.Nat.{ℕ, zero, suc, _+_, _-_, _*_, _/_, _%_, _≤_}
+use mathlib.Core.Path.{_≡_}
+use mathlib.Core.List.{List}
+use mathlib.Core.Bool.{Bool, false}
+use lib.Dec.{eqb, leb, ltb}
+use lib.ListN.{length, getD, set}
+use Rattle.meaning.specs.Choice.{pick}
+use Rattle.meaning.specs.Outcome.{Outcome, ok, refuse}
+use Rattle.meaning.specs.Syntax.{File}
+use Rattle.meaning.specs.Start.{start}
+use Rattle.standing.specs.Bytes.{paramsIn}
+use Rattle.standing.specs.Table.{Declared}
+use Rattle.machine.specs.StartWords.{sortAt, wordFine, kindOf, insideFine, modeAt, argFine, allFrom}
+
+pub record Area : Type 0 where
+  pub work : List ℕ
+  pub tail : ℕ
+
+abbrev pub area : List ℕ → ℕ → Area
+area w t = record { work = w; tail = t }
+
+unfoldable pub counted : ℕ → List ℕ → ℕ → ℕ
+counted base w c = (getD w (base + c) 0 + 1) % 4294967296
+
+unfoldable pub bumpTo : (base goal : ℕ) → Area → ℕ → Area
+bumpTo base goal a c =
+    pick (eqb (counted base (a .work) c) goal)
+    (pick (leb 1024 (a .tail))
+    (area (set (a .work) (base + c) (counted base (a .work) c)) (a .tail))
+    (area (set (set (a .work) (base + c) (counted base (a .work) c)) (base + 1024 + a .tail) c) (a .tail + 1)))
+    (area (set (a .work) (base + c) (counted base (a .work) c)) (a .tail))
+
+-- queued the first time in the first walk, the last time in the second
+unfoldable pub bump : ℕ → Area → ℕ → Area
+bump base a c = pick (eqb base 0) (bumpTo base 1 a c) (bumpTo base (getD (a .work) c 0) a c)
+
+-- n words zero, from `base` on
+unfoldable pub cleared : (base n : ℕ) → List ℕ → List ℕ
+cleared base zero l = l
+cleared base (suc n) l = set (cleared base n l) (base + n) 0
+
+unfoldable pub usedOnce : List ℕ → ℕ → Bool
+usedOnce work c = pick (leb 1024 c) false (leb (getD work c 0) 1)
+
+-- the answer by the tests: of the arguments, of the cells, of namings of the cells that owned arguments reach, of namings of all; and by
+-- whether cells are held back
+unfoldable pub judged : (args cells owned all held : Bool) → ℕ
+judged args cells owned all held = pick args (pick cells (pick owned (pick all 0 (pick held 24 0)) 23) 22) 22
+
+module _ (bytes table store : List ℕ) where
+  unfoldable pub nameAt : ℕ → Area → ℕ → Area
+  nameAt base a w = pick (leb 65536 w) (pick (wordFine bytes table store w) (bump base a (w - 65536)) a) a
+
+  unfoldable pub fieldAt : (base kind i w : ℕ) → Area → Area
+  fieldAt base kind i w a = pick (eqb (sortAt bytes kind i) 2) (nameAt base a w) a
+
+  unfoldable pub expandAt : ℕ → Area → ℕ → Area
+  expandAt base a c =
+      pick (ltb (length store) (5 * c + 5)) a
+      (pick (leb 64 (getD store (5 * c) 0)) a
+      (fieldAt base (kindOf table store c) 3 (getD store (5 * c + 4) 0)
+      (fieldAt base (kindOf table store c) 2 (getD store (5 * c + 3) 0)
+      (fieldAt base (kindOf table store c) 1 (getD store (5 * c + 2) 0)
+      (fieldAt base (kindOf table store c) 0 (getD store (5 * c + 1) 0) a)))))
+
+  unfoldable pub drainAt : (base fuel head : ℕ) → Area → Area
+  drainAt base zero h a = a
+  drainAt base (suc n) h a = pick (leb (a .tail) h) a (drainAt base n (suc h) (expandAt base a (getD (a .work) (base + 1024 + h) 0)))
+
+  -- the arguments of a mode, n of them from i on
+  unfoldable pub argsAt : (base : ℕ) → (args : List ℕ) → (mode n i : ℕ) → Area → Area
+  argsAt base args mode zero i a = a
+  argsAt base args mode (suc n) i a =
+      argsAt base args mode n (suc i) (pick (eqb (modeAt bytes table i) mode) (nameAt base a (getD args i 0)) a)
+
+  module _ (args : List ℕ) where
+    -- the cells reached from owned arguments; those reached from any, behind them; those that no cycle holds back
+    unfoldable pub ownedArea : List ℕ → Area
+    ownedArea work = drainAt 0 1024 0 (argsAt 0 args 2 (length args) 0 (area (cleared 0 (length store / 5) work) 0))
+
+    unfoldable pub allArea : Area → Area
+    allArea a = drainAt 0 1024 (a .tail) (argsAt 0 args 1 (length args) 0 a)
+
+    unfoldable pub freeArea : List ℕ → Area
+    freeArea work =
+        drainAt 2048 1024 0
+        (argsAt 2048 args 1 (length args) 0 (argsAt 2048 args 2 (length args) 0 (area (cleared 2048 (length store / 5) work) 0)))
+
+    -- the tests on the areas after the three walks
+    unfoldable pub answerAt : (o a f : Area) → ℕ
+    answerAt o a f =
+        judged (allFrom (λ i. argFine bytes table store (modeAt bytes table i) (getD args i 0)) (length args) 0)
+        (allFrom (λ i. insideFine bytes table store (getD (a .work) (1024 + i) 0)) (a .tail) 0)
+        (allFrom (λ i. usedOnce (a .work) (getD (a .work) (1024 + i) 0)) (o .tail) 0)
+        (allFrom (λ i. usedOnce (a .work) (getD (a .work) (1024 + i) 0)) (a .tail) 0)
+        (ltb (f .tail) (a .tail))
+
+    -- what the code answers
+    unfoldable pub startAt : List ℕ → ℕ
+    startAt work = answerAt (ownedArea work) (allArea (ownedArea work)) (freeArea (allArea (ownedArea work) .work))
+
+-- an answer as the meaning has it
+unfoldable pub outcome : ℕ → Outcome (Unit {0})
+outcome n = pick (eqb n 0) (ok tt) (refuse n 0)
+
+-- what is known where 1 to 21 do not apply: a file that its table tells of, and sizes that fit
+pub record Passed (bytes table args store work : List ℕ) : Type 0 where
+  pub room : 4096 ≤ length work
+  pub fits : length store ≤ 5120
+  pub whole : length store % 5 ≡ 0
+  pub given : length args ≡ paramsIn table 0
+  pub tree : File
+  pub declared : Declared tree bytes table
+
+-- an answer is the meaning's, whatever file the table tells of
+abbrev pub Meant : (bytes table args store work : List ℕ) → ℕ → Type 0
+Meant bytes table args store work r = (tree : File) → Declared tree bytes table → outcome r ≡ start tree (length work) args store
