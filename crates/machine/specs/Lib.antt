@@ -1,0 +1,5 @@
+pub mod Layout
+pub mod Skips
+pub mod Needs
+pub mod Represents
+pub mod Steps
