@@ -6,4 +6,5 @@ pub mod Laying
 pub mod Frames
 pub mod Whole
 pub mod Needed
+pub mod Behind
 pub mod Runs

@@ -39,12 +39,12 @@ StepsAt Mark.LK bytes decl store c store′ c′ = Opens bytes decl store 0 c st
 StepsAt Mark.NU bytes decl store c store′ c′ = (store′ ≡ store) × (c′ ≡ nuOf bytes c)
 StepsAt Mark.AR bytes decl store c store′ c′ = (store′ ≡ store) × (c′ ≡ arOf bytes c)
 StepsAt Mark.IF bytes decl store c store′ c′ = (store′ ≡ store) × Chosen bytes decl c (c′ .state) × (c′ .work ≡ c .work)
-StepsAt Mark.CN bytes decl store c store′ c′ = Unit {0}
-StepsAt Mark.FN bytes decl store c store′ c′ = Unit {0}
-StepsAt Mark.BD bytes decl store c store′ c′ = Unit {0}
-StepsAt Mark.ND bytes decl store c store′ c′ = Unit {0}
-StepsAt Mark.BR bytes decl store c store′ c′ = Unit {0}
-StepsAt Mark.other bytes decl store c store′ c′ = Unit {0}
+StepsAt Mark.CN bytes decl store c store′ c′ = (store′ ≡ store) × (c′ ≡ c)
+StepsAt Mark.FN bytes decl store c store′ c′ = (store′ ≡ store) × (c′ ≡ c)
+StepsAt Mark.BD bytes decl store c store′ c′ = (store′ ≡ store) × (c′ ≡ c)
+StepsAt Mark.ND bytes decl store c store′ c′ = (store′ ≡ store) × (c′ ≡ c)
+StepsAt Mark.BR bytes decl store c store′ c′ = (store′ ≡ store) × (c′ ≡ c)
+StepsAt Mark.other bytes decl store c store′ c′ = (store′ ≡ store) × (c′ ≡ c)
 
 pub record Steps (bytes decl store : List ℕ) (c : Top) (store′ : List ℕ) (c′ : Top) : Type 0 where
   pub does : StepsAt (markOf (markAt bytes (c .state .frame .at))) bytes decl store c store′ c′

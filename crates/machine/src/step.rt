@@ -1,7 +1,7 @@
 // One node a step, and the run of so many steps.
 ghost use mathlib.Core.Path.{_≡_};
 ghost use Prim.Native.Nat.{ℕ, _+_, _*_, _-_, _<_, _≤_, max};
-ghost use lib.ListN.{length, getD};
+ghost use lib.ListN.{length, getD, drop};
 ghost use Rattle.meaning.specs.Marks.{findMark};
 ghost use Rattle.meaning.specs.Plain.{arithmetic};
 ghost use Rattle.meaning.specs.Machine.{run};
@@ -444,7 +444,7 @@ pub(crate) fn go(
     limit: u32,
 ) -> Ran
     requires { ⌜ Fit (now file) (now decl) (now store) (top s (now work)) ⌝ }
-    ensures { λ r. ⌜ ((f : Fit (now (file .entry)) (now (decl .entry)) (now (store .entry)) (top s (now (work .entry)))) → answerOf r (now (store .exit)) ≡ run (f .file) limit (f .st) 0 (s .most)) ⌝ }
+    ensures { λ r. ⌜ ((f : Fit (now (file .entry)) (now (decl .entry)) (now (store .entry)) (top s (now (work .entry)))) → answerOf r (now (store .exit)) ≡ run (f .file) limit (f .st) 0 (s .most)) × (drop 4096 (now (work .exit)) ≡ drop 4096 (now (work .entry))) ⌝ }
 {
     let mut cur = s;
     let mut steps: u32 = 0;

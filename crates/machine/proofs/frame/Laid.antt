@@ -3,8 +3,8 @@ use Prim.Native.Nat.{ℕ, zero, suc, _+_, _*_, _-_, _≤_, _<_}
 use mathlib.Core.List.{List, [], _∷_}
 use mathlib.Core.Path.{_≡_, refl, sym, ap, _∙_, subst}
 use native.Mathlib.Omega.{arith}
-use lib.ListN.{length, getD, set, length-set, replicate}
-use lib.Seq.{getD-set-same, getD-set-other}
+use lib.ListN.{length, getD, set, drop, length-set, replicate}
+use lib.Seq.{getD-set-same, getD-set-other, drop-set-lt}
 use Rattle.machine.specs.Layout.{laid, words, gathered, slotIn}
 
 -- words that are laid
@@ -22,6 +22,11 @@ pub laid-after : (l : List ℕ) (p : ℕ) (ws : List ℕ) (q : ℕ) → p + leng
 unfolding laid
 laid-after l p [] q h = refl
 laid-after l p (w ∷ ws) q h = laid-after (set l p w) (p + 1) ws q (omega arith) ∙ getD-set-other l p q w 0 (λ e. omega arith)
+
+pub laid-behind : (n : ℕ) (l : List ℕ) (p : ℕ) (ws : List ℕ) → p + length ws ≤ n → drop n (laid l p ws) ≡ drop n l
+unfolding laid
+laid-behind n l p [] h = refl
+laid-behind n l p (w ∷ ws) h = laid-behind n (set l p w) (p + 1) ws (omega arith) ∙ drop-set-lt n l p w (omega arith)
 
 pub laid-at : (l : List ℕ) (p : ℕ) (ws : List ℕ) (j : ℕ) → j < length ws → p + length ws ≤ length l → getD (laid l p ws) (p + j) 0 ≡ getD ws j 0
 unfolding laid
@@ -74,6 +79,11 @@ turn-gathered X m bytes work base to at n j i v h f e x =
 pub end-gathered : (X m bytes work : List ℕ) (base to at n j : ℕ) → n ≤ j → X ≡ laid m (to + j) (gathered bytes work base (at + j) (n - j)) → m ≡ X
 unfolding laid gathered
 end-gathered X m bytes work base to at n j h x = let a : n - j ≡ 0 = omega arith in sym (x ∙ ap (λ k. laid m (to + j) (gathered bytes work base (at + j) k)) a)
+
+pub words-length : (l : List ℕ) (p k : ℕ) → length (words l p k) ≡ k
+unfolding words
+words-length l p zero = refl
+words-length l p (suc k) = ap suc (words-length l (p + 1) k)
 
 pub gathered-length : (bytes work : List ℕ) (base at n : ℕ) → length (gathered bytes work base at n) ≡ n
 unfolding gathered

@@ -14,7 +14,7 @@ use Rattle.machine.specs.Layout.{Top, top, going, ended, bound, laid, ga
 use Rattle.machine.specs.Represents.{Agrees, Words, Waits, Saved, Represents, After}
 use Rattle.machine.specs.Steps.{StepsAt, constructorIn}
 use Rattle.machine.specs.Skips.{Found}
-use Rattle.machine.proofs.frame.Laid.{laid-length, laid-before, laid-after, laid-at}
+use Rattle.machine.proofs.frame.Laid.{words-length, laid-length, laid-before, laid-after, laid-at}
 use Rattle.machine.proofs.step.Words.{words-make, words-keep, words-give-up, words-without, without-length, laid-write, gathered-map, saved-keep, bound-represents}
 use Rattle.machine.proofs.step.Laying.{Pairs, both, pairs-length, pairs-at, pairs-append, opened-pairs, looked-pairs, laid-snoc, held-owned, held-lent, argued-pairs, lays}
 use Rattle.machine.proofs.step.Skipping.{Taken, found-branch}
@@ -279,11 +279,6 @@ module _ (file : File) (budget : ℕ) (bytes decl : List ℕ) (d : Declared file
 
   pub lent-shape : {store : Store} {A F : List ℕ} {h : Held} {v : Value} → Holds (file .constructors) store A Kind.lent h v F → Shape store (word h)
   lent-shape (Holds.lent t i) = tree-shape t
-
-  words-length : (l : List ℕ) (p k : ℕ) → length (words l p k) ≡ k
-  unfolding words
-  words-length l p zero = refl
-  words-length l p (suc k) = ap suc (words-length l (p + 1) k)
 
   pub op-sim : {p s nx : ℕ} {bs : Branches} {hs : List Held} {store : Store} {under : List Frame} {c : Top} (r : Rep file budget bytes decl store c (S.OP p s bs) hs under)
       → suc (length under) ≤ c .state .most → {result : Sort} {slots : Slots} {env : List Value} {F A : List ℕ} → Ready file budget (S.OP p s bs) result slots hs env store F A

@@ -63,23 +63,23 @@ leaf-follows Mark.ND bytes decl at e a b c d f g h i j = refl
 leaf-follows Mark.BR bytes decl at e a b c d f g h i j = refl
 leaf-follows Mark.other bytes decl at e a b c d f g h i j = refl
 
--- a mark of no node: nothing is promised
-pub no-node : (k : Mark) (bytes decl store : List ℕ) (x y : Top) {n : ℕ} → n ≡ numberOf k → (n ≡ 4 → ⊥) → (n ≡ 5 → ⊥) → (n ≡ 6 → ⊥) → (n ≡ 7 → ⊥) → (n ≡ 8 → ⊥) → (n ≡ 9 → ⊥)
-    → (n ≡ 10 → ⊥) → (n ≡ 12 → ⊥) → (n ≡ 13 → ⊥) → (n ≡ 14 → ⊥) → StepsAt k bytes decl store x store y
+-- a mark of no node: nothing is done
+pub no-node : (k : Mark) (bytes decl store : List ℕ) (x : Top) {n : ℕ} → n ≡ numberOf k → (n ≡ 4 → ⊥) → (n ≡ 5 → ⊥) → (n ≡ 6 → ⊥) → (n ≡ 7 → ⊥) → (n ≡ 8 → ⊥) → (n ≡ 9 → ⊥)
+    → (n ≡ 10 → ⊥) → (n ≡ 12 → ⊥) → (n ≡ 13 → ⊥) → (n ≡ 14 → ⊥) → StepsAt k bytes decl store x store x
 unfolding numberOf
-no-node Mark.GV bytes decl store x y e z a b c d f g h i j = absurd (z e)
-no-node Mark.AT bytes decl store x y e z a b c d f g h i j = absurd (a e)
-no-node Mark.MK bytes decl store x y e z a b c d f g h i j = absurd (b e)
-no-node Mark.CL bytes decl store x y e z a b c d f g h i j = absurd (c e)
-no-node Mark.TL bytes decl store x y e z a b c d f g h i j = absurd (d e)
-no-node Mark.OP bytes decl store x y e z a b c d f g h i j = absurd (f e)
-no-node Mark.LK bytes decl store x y e z a b c d f g h i j = absurd (g e)
-no-node Mark.NU bytes decl store x y e z a b c d f g h i j = absurd (h e)
-no-node Mark.AR bytes decl store x y e z a b c d f g h i j = absurd (i e)
-no-node Mark.IF bytes decl store x y e z a b c d f g h i j = absurd (j e)
-no-node Mark.CN bytes decl store x y e z a b c d f g h i j = tt
-no-node Mark.FN bytes decl store x y e z a b c d f g h i j = tt
-no-node Mark.BD bytes decl store x y e z a b c d f g h i j = tt
-no-node Mark.ND bytes decl store x y e z a b c d f g h i j = tt
-no-node Mark.BR bytes decl store x y e z a b c d f g h i j = tt
-no-node Mark.other bytes decl store x y e z a b c d f g h i j = tt
+no-node Mark.GV bytes decl store x e z a b c d f g h i j = absurd (z e)
+no-node Mark.AT bytes decl store x e z a b c d f g h i j = absurd (a e)
+no-node Mark.MK bytes decl store x e z a b c d f g h i j = absurd (b e)
+no-node Mark.CL bytes decl store x e z a b c d f g h i j = absurd (c e)
+no-node Mark.TL bytes decl store x e z a b c d f g h i j = absurd (d e)
+no-node Mark.OP bytes decl store x e z a b c d f g h i j = absurd (f e)
+no-node Mark.LK bytes decl store x e z a b c d f g h i j = absurd (g e)
+no-node Mark.NU bytes decl store x e z a b c d f g h i j = absurd (h e)
+no-node Mark.AR bytes decl store x e z a b c d f g h i j = absurd (i e)
+no-node Mark.IF bytes decl store x e z a b c d f g h i j = absurd (j e)
+no-node Mark.CN bytes decl store x e z a b c d f g h i j = (refl, refl)
+no-node Mark.FN bytes decl store x e z a b c d f g h i j = (refl, refl)
+no-node Mark.BD bytes decl store x e z a b c d f g h i j = (refl, refl)
+no-node Mark.ND bytes decl store x e z a b c d f g h i j = (refl, refl)
+no-node Mark.BR bytes decl store x e z a b c d f g h i j = (refl, refl)
+no-node Mark.other bytes decl store x e z a b c d f g h i j = (refl, refl)

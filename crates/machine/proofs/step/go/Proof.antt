@@ -9,20 +9,21 @@ use native.Mathlib.Omega.{arith}
 use borrow.Author.Needs.{needs}
 use Prim.Native.Nat.{ℕ, suc, _+_, _-_, _≤_, _<_}
 use mathlib.Core.Path.{_≡_, refl, sym, ap, _∙_}
-use lib.ListN.{length}
+use lib.ListN.{length, drop}
 use Rattle.machine.specs.Layout.{top}
 use Rattle.meaning.specs.Machine.{answers}
 use Rattle.machine.proofs.step.Needed.{fit-mark}
 use Rattle.machine.proofs.step.Runs.{Reached, reached-start, reached-next, reached-stop, reached-end, stop-small}
+use Rattle.machine.proofs.step.Behind.{step-behind}
 
 abbrev Inv-loop : tie.InvT-loop
-Inv-loop file decl store₀ work₀ limit cur₀ steps₀ store work cur steps = (steps ≤ limit) × (length store ≡ length store₀) × (length work ≡ length work₀) × Reached file decl store₀ (top cur₀ work₀) limit steps store (top cur work)
+Inv-loop file decl store₀ work₀ limit cur₀ steps₀ store work cur steps = (steps ≤ limit) × (length store ≡ length store₀) × (length work ≡ length work₀) × Reached file decl store₀ (top cur₀ work₀) limit steps store (top cur work) × (drop 4096 work ≡ drop 4096 work₀)
 
 abbrev μ-loop : tie.MeasureT-loop
 μ-loop file decl store₀ work₀ limit cur₀ steps₀ store work cur steps = limit - steps
 
 loop-holds : tie.Need-loop-holds Inv-loop μ-loop
-loop-holds c = (omega arith, refl, refl, reached-start _ _ _ _ _)
+loop-holds c = (omega arith, refl, refl, reached-start _ _ _ _ _, refl)
 
 step-requires : tie.Need-step-requires Inv-loop μ-loop
 step-requires c κs = c .before .before .before .loop .inv .3 (c .before .before .before .before .before .before .before .pre) .0
@@ -46,13 +47,13 @@ same-length-2 : tie.Need-same-length-2 Inv-loop μ-loop
 same-length-2 c = c .before .before .before .before .before .before .before .before .step .kept .1 .1 .1 .0 ∙ c .before .before .before .before .before .before .before .before .before .before .before .before .loop .inv .2
 
 returns : tie.Need-returns Inv-loop μ-loop
-returns c = λ f. rw (c .before .place-of .ensures) (reached-stop (c .before .before .before .before .before .before .before .before .before .before .before .before .loop .inv .3) (c .before .before .before .before .before .before .before .before .step .ensures) (c .before .before .before .before .before .before .before .before .before .before .before .loop-test .taken) (c .before .before .if1 .taken) f)
+returns c = (λ f. rw (c .before .place-of .ensures) (reached-stop (c .before .before .before .before .before .before .before .before .before .before .before .before .loop .inv .3) (c .before .before .before .before .before .before .before .before .step .ensures) (c .before .before .before .before .before .before .before .before .before .before .before .loop-test .taken) (c .before .before .if1 .taken) f), step-behind (c .before .before .before .before .before .before .before .before .before .before .before .before .loop .inv .3 (c .before .before .before .before .before .before .before .before .before .before .before .before .before .before .before .before .pre) .0) (c .before .before .before .before .before .before .before .before .step .ensures) ∙ c .before .before .before .before .before .before .before .before .before .before .before .before .loop .inv .4)
 
 loop-less : tie.Need-loop-less Inv-loop μ-loop
 loop-less c = omega arith
 
 loop-again : tie.Need-loop-again Inv-loop μ-loop
-loop-again c = (omega arith, c .before .before .before .before .before .before .step .kept .1 .1 .0 ∙ c .before .before .before .before .before .before .before .before .before .before .loop .inv .1, c .before .before .before .before .before .before .step .kept .1 .1 .1 .0 ∙ c .before .before .before .before .before .before .before .before .before .before .loop .inv .2, reached-next (c .before .before .before .before .before .before .before .before .before .before .loop .inv .3) (c .before .before .before .before .before .before .step .ensures) (c .before .before .before .before .before .before .before .before .before .loop-test .taken) (c .if1 .left))
+loop-again c = (omega arith, c .before .before .before .before .before .before .step .kept .1 .1 .0 ∙ c .before .before .before .before .before .before .before .before .before .before .loop .inv .1, c .before .before .before .before .before .before .step .kept .1 .1 .1 .0 ∙ c .before .before .before .before .before .before .before .before .before .before .loop .inv .2, reached-next (c .before .before .before .before .before .before .before .before .before .before .loop .inv .3) (c .before .before .before .before .before .before .step .ensures) (c .before .before .before .before .before .before .before .before .before .loop-test .taken) (c .if1 .left), step-behind (c .before .before .before .before .before .before .before .before .before .before .loop .inv .3 (c .before .before .before .before .before .before .before .before .before .before .before .before .before .before .pre) .0) (c .before .before .before .before .before .before .step .ensures) ∙ c .before .before .before .before .before .before .before .before .before .before .loop .inv .4)
 
 cast-t17 : tie.Need-cast-t17 Inv-loop μ-loop
 cast-t17 c = let g = c .before .before .loop .inv .3 (c .before .before .before .before .before .before .pre) .0 in omega (arith, fit-mark g, g .declared .size)
@@ -67,7 +68,7 @@ same-length-4 : tie.Need-same-length-4 Inv-loop μ-loop
 same-length-4 c = c .before .before .before .loop .inv .2
 
 returns-2 : tie.Need-returns-2 Inv-loop μ-loop
-returns-2 c = reached-end (c .before .before .before .loop .inv .3) (omega arith)
+returns-2 c = (reached-end (c .before .before .before .loop .inv .3) (omega arith), c .before .before .before .loop .inv .4)
 
 pub go-spec : {M : Type 1} → statement M
 go-spec =

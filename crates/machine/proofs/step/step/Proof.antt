@@ -117,11 +117,11 @@ returns-9 c = opens-of (c .before .before .before .before .before .before .befor
 
 returns-10 : tie.Need-returns-10
 unfolding findMark
-returns-10 c = steps-of (markOf (markAt (c .before .before .before .before .before .before .args .file .now) (c .before .before .before .before .before .before .args .s .frame .at))) refl (no-node (markOf (markAt (c .before .before .before .before .before .before .args .file .now) (c .before .before .before .before .before .before .args .s .frame .at))) _ _ _ _ _ (c .before .before .mark .ensures) (c .before .match .rest .0 .0 .0 .0 .0 .0 .0 .1) (c .before .match .rest .0 .0 .0 .0 .0 .0 .1) (c .before .match .rest .0 .0 .0 .0 .0 .1) (c .before .match .rest .0 .0 .0 .0 .1) (c .before .match .rest .0 .0 .0 .1) (λ e. omega (arith, c .if1 .taken, e)) (λ e. omega (arith, c .if1 .taken, e)) (c .before .match .rest .0 .0 .1) (c .before .match .rest .0 .1) (c .before .match .rest .1))
+returns-10 c = steps-of (markOf (markAt (c .before .before .before .before .before .before .args .file .now) (c .before .before .before .before .before .before .args .s .frame .at))) refl (no-node (markOf (markAt (c .before .before .before .before .before .before .args .file .now) (c .before .before .before .before .before .before .args .s .frame .at))) _ _ _ _ (c .before .before .mark .ensures) (c .before .match .rest .0 .0 .0 .0 .0 .0 .0 .1) (c .before .match .rest .0 .0 .0 .0 .0 .0 .1) (c .before .match .rest .0 .0 .0 .0 .0 .1) (c .before .match .rest .0 .0 .0 .0 .1) (c .before .match .rest .0 .0 .0 .1) (λ e. omega (arith, c .if1 .taken, e)) (λ e. omega (arith, c .if1 .taken, e)) (c .before .match .rest .0 .0 .1) (c .before .match .rest .0 .1) (c .before .match .rest .1))
 
 returns-11 : tie.Need-returns-11
 unfolding findMark
-returns-11 c = steps-of (markOf (markAt (c .before .before .before .before .before .before .before .args .file .now) (c .before .before .before .before .before .before .before .args .s .frame .at))) refl (no-node (markOf (markAt (c .before .before .before .before .before .before .before .args .file .now) (c .before .before .before .before .before .before .before .args .s .frame .at))) _ _ _ _ _ (c .before .before .before .mark .ensures) (c .before .before .match .rest .0 .0 .0 .0 .0 .0 .0 .1) (c .before .before .match .rest .0 .0 .0 .0 .0 .0 .1) (c .before .before .match .rest .0 .0 .0 .0 .0 .1) (c .before .before .match .rest .0 .0 .0 .0 .1) (c .before .before .match .rest .0 .0 .0 .1) (λ e. omega (arith, c .if2 .left, e)) (λ e. omega (arith, c .if2 .left, e)) (c .before .before .match .rest .0 .0 .1) (c .before .before .match .rest .0 .1) (c .before .before .match .rest .1))
+returns-11 c = steps-of (markOf (markAt (c .before .before .before .before .before .before .before .args .file .now) (c .before .before .before .before .before .before .before .args .s .frame .at))) refl (no-node (markOf (markAt (c .before .before .before .before .before .before .before .args .file .now) (c .before .before .before .before .before .before .before .args .s .frame .at))) _ _ _ _ (c .before .before .before .mark .ensures) (c .before .before .match .rest .0 .0 .0 .0 .0 .0 .0 .1) (c .before .before .match .rest .0 .0 .0 .0 .0 .0 .1) (c .before .before .match .rest .0 .0 .0 .0 .0 .1) (c .before .before .match .rest .0 .0 .0 .0 .1) (c .before .before .match .rest .0 .0 .0 .1) (λ e. omega (arith, c .if2 .left, e)) (λ e. omega (arith, c .if2 .left, e)) (c .before .before .match .rest .0 .0 .1) (c .before .before .match .rest .0 .1) (c .before .before .match .rest .1))
 
 pub step-spec : {M : Type 1} → statement M
 step-spec =
