@@ -8,3 +8,4 @@ pub mod Whole
 pub mod Needed
 pub mod Behind
 pub mod Runs
+pub mod First

@@ -2,7 +2,7 @@
 -- The work area: the slots of frame d at 32 * d; where frame d goes on, and its count of slots, at 1024 + 2 * d.
 use Prim.Native.Nat.{ℕ, zero, suc, _+_, _*_, _-_, max}
 use mathlib.Core.List.{List, [], _∷_}
-use lib.ListN.{getD, set}
+use lib.ListN.{length, getD, set}
 use lib.Dec.{ltb, leb, eqb}
 use Rattle.machine.specs.declared.frame.State.{State}
 use Rattle.meaning.specs.Choice.{pick}
@@ -122,3 +122,7 @@ unfoldable pub opOf : List ℕ → List ℕ → List ℕ → Top → (b credit :
 opOf bytes decl store c b credit =
     let w = slotIn bytes (c .work) (c .state .frame .depth * 32) (c .state .frame .at + 2) in
     pick (eqb b 0) (top (ended (c .state) 31 0) (c .work)) (openedOf decl store c w (conOf store w) b credit)
+
+-- the first state: function 0's body, the arguments as slots
+unfoldable pub firstOf : (decl args work : List ℕ) → Top
+firstOf decl args work = top (going (bodyIn decl 0) 0 (length args) 1) (laid work 0 args)

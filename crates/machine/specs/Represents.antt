@@ -6,10 +6,13 @@ use lib.ListN.{length, getD}
 use Rattle.machine.specs.Layout.{Top}
 use Rattle.meaning.specs.Syntax.{Sort, File}
 use Rattle.meaning.specs.Plain.{place-of}
-use Rattle.meaning.specs.Machine.{Held, Store, Frame, Step, held}
+use Rattle.meaning.specs.Machine.{Held, Store, Frame, Step, held, function-of}
 use Rattle.meaning.specs.Machine as M
 use Rattle.theory.proofs.Sim.{Accepted, Once}
+use Rattle.meaning.specs.Outcome.{ok}
+use Rattle.meaning.specs.Verdict.{accepted}
 use Rattle.theory.proofs.Stack.{Whole}
+use Rattle.theory.proofs.Started.{Started}
 use Rattle.standing.specs.Stands.{Stands}
 use Rattle.standing.specs.Table.{Declared}
 
@@ -72,3 +75,12 @@ pub record Fit (bytes decl store : List ℕ) (c : Top) : Type 0 where
   pub once : Once All
   pub most : suc (length (st .under)) ≤ c .state .most
   pub high : c .state .most ≤ 32
+
+-- the words of a start that is not refused, for an accepted file
+pub record Begun (bytes decl args store work : List ℕ) : Type 0 where
+  pub file : File
+  pub declared : Declared file bytes decl
+  pub accepts : accepted bytes ≡ ok file
+  pub many : length args ≡ length (function-of file 0 .parameters)
+  pub started : Started file args store
+  pub room : 4096 ≤ length work

@@ -30,6 +30,21 @@ impl Frame {
             bound: 0,
         }
     }
+
+    // The first frame with fresh slots: the words given.
+    pub(crate) fn fresh(at: usize, args: &[u32], work: &mut [u32]) -> Frame
+        requires { ⌜ (length (now args) ≤ 32) × (32 ≤ length (now work)) ⌝ }
+        ensures { λ r. ⌜ (r .at ≡ at) × (r .depth ≡ 0) × (r .bound ≡ length (now (args .entry))) × (now (work .exit) ≡ laid (now (work .entry)) 0 (now (args .entry))) ⌝ }
+    {
+        let n = args.len();
+        load(args, work, 0, 0, n);
+        let first = Frame::empty();
+        Frame {
+            at,
+            depth: first.depth,
+            bound: n,
+        }
+    }
 }
 
 // The lent store, by its count of cells: words each, and the word that names the first.

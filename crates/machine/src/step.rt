@@ -5,11 +5,12 @@ ghost use lib.ListN.{length, getD, drop};
 ghost use Rattle.meaning.specs.Marks.{findMark};
 ghost use Rattle.meaning.specs.Plain.{arithmetic};
 ghost use Rattle.meaning.specs.Machine.{run};
+ghost use Rattle.meaning.specs.InPlace.{begins};
 ghost use Rattle.standing.specs.Bytes.{byteAt, markAt, arityIn, paramsIn, bodyIn};
-ghost use Rattle.machine.specs.Layout.{slotIn, top, nuOf, atOf, arOf, gvOf, tlOf, clOf, mkOf, mkStore, conOf, openedOf, opOf};
+ghost use Rattle.machine.specs.Layout.{slotIn, top, nuOf, atOf, arOf, gvOf, tlOf, clOf, mkOf, mkStore, conOf, openedOf, opOf, firstOf};
 ghost use Rattle.machine.specs.Skips.{Safe, thenOf, Skips, SkipsAll, Found};
 ghost use Rattle.machine.specs.Needs.{Room, word-at, MkNeeds, CallNeeds, OpenNeeds};
-ghost use Rattle.machine.specs.Represents.{Fit};
+ghost use Rattle.machine.specs.Represents.{Fit, Begun};
 ghost use Rattle.machine.specs.Steps.{Steps, Chosen, creditOf, placeOf, answerOf};
 use crate::frame::Frame;
 use crate::frame::State;
@@ -434,6 +435,19 @@ fn place_of(s: State) -> usize
     s.frame.at
 }
 
+// The first state: function 0's body with the arguments as its slots.
+pub(crate) fn first_state(decl: &[u32; 128], args: &[u32], work: &mut [u32]) -> State
+    requires { ⌜ (length (now args) ≤ 32) × (4096 ≤ length (now work)) ⌝ }
+    ensures { λ r. ⌜ top r (now (work .exit)) ≡ firstOf (now (decl .entry)) (now (args .entry)) (now (work .entry)) ⌝ }
+{
+    State {
+        frame: Frame::fresh(body(decl, 0), args, work),
+        most: 1,
+        number: State::GOING,
+        value: 0,
+    }
+}
+
 // At most so many nodes.
 pub(crate) fn go(
     file: &[u8],
@@ -468,4 +482,20 @@ pub(crate) fn go(
         place: cur.frame.at as u32,
         frames: cur.most as u32,
     }
+}
+
+// At most so many nodes of function 0.
+pub(crate) fn execute(
+    file: &[u8],
+    decl: &[u32; 128],
+    args: &[u32],
+    store: &mut [u32],
+    work: &mut [u32],
+    limit: u32,
+) -> Ran
+    requires { ⌜ Begun (now file) (now decl) (now args) (now store) (now work) ⌝ }
+    ensures { λ r. ⌜ ((b : Begun (now (file .entry)) (now (decl .entry)) (now (args .entry)) (now (store .entry)) (now (work .entry))) → answerOf r (now (store .exit)) ≡ run (b .file) limit (begins (b .file) (now (args .entry)) (now (store .entry))) 0 1) × (drop 4096 (now (work .exit)) ≡ drop 4096 (now (work .entry))) ⌝ }
+{
+    let s = first_state(decl, args, work);
+    go(file, decl, store, work, s, limit)
 }

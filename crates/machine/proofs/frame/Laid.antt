@@ -3,8 +3,8 @@ use Prim.Native.Nat.{ℕ, zero, suc, _+_, _*_, _-_, _≤_, _<_}
 use mathlib.Core.List.{List, [], _∷_}
 use mathlib.Core.Path.{_≡_, refl, sym, ap, _∙_, subst}
 use native.Mathlib.Omega.{arith}
-use lib.ListN.{length, getD, set, drop, length-set, replicate}
-use lib.Seq.{getD-set-same, getD-set-other, drop-set-lt}
+use lib.ListN.{length, getD, set, drop, length-set, drop-of-length-le, replicate}
+use lib.Seq.{getD-set-same, getD-set-other, drop-set-lt, drop-cons}
 use Rattle.machine.specs.Layout.{laid, words, gathered, slotIn}
 
 -- words that are laid
@@ -105,3 +105,15 @@ gathered-laid bytes work base at n h =
     let e = gathered-length bytes work base at n in
     let w : List ℕ = gathered bytes work base at n in
     subst (λ k. words (laid (replicate 8 0) 0 w) 0 k ≡ w) e (words-laid (replicate 8 0) 0 w (let z : 0 + length w ≤ 8 = omega (arith, e) in z))
+
+-- all words of a list
+words-from : (l : List ℕ) (p k : ℕ) → p + k ≡ length l → words l p k ≡ drop p l
+unfolding words
+words-from l p zero e = sym (drop-of-length-le l (let h : length l ≤ p = omega arith in h))
+words-from l p (suc k) e =
+    let h : p < length l = omega arith in
+    let z : p + 1 ≡ suc p = omega arith in
+    (λ i. getD l p 0 ∷ words l (z i) k) ∙ ap (λ r. getD l p 0 ∷ r) (words-from l (suc p) k (omega arith)) ∙ sym (drop-cons l p 0 h)
+
+pub words-all : (l : List ℕ) → words l 0 (length l) ≡ l
+words-all l = words-from l 0 (length l) (omega arith)
