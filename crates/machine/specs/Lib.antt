@@ -1,2 +1,7 @@
 pub mod StartWords
 pub mod StartArea
+pub mod Layout
+pub mod Skips
+pub mod Needs
+pub mod Represents
+pub mod Steps

@@ -1,0 +1,72 @@
+-- The proof of `load`. Assumes nothing.
+use Rattle.machine.proofs.frame.load.Statement.{statement}
+use Rattle.machine.proofs.frame.load.Tie as tie
+use Rattle.machine.proofs.frame.load.Reads as reads
+use Rattle.machine.proofs.frame.load.Lts as lts
+use Prim.Native.Nat.{ℕ, suc, _+_, _-_, _≤_, _<_}
+use mathlib.Core.Path.{_≡_, refl, sym, ap, _∙_}
+use native.Mathlib.Omega.{arith}
+use lib.ListN.{length, length-set}
+use Rattle.machine.specs.Layout.{laid, words}
+use Rattle.machine.proofs.frame.Laid.{start-words, turn-words, end-words}
+
+abbrev Inv-loop : tie.InvT-loop
+Inv-loop from work₀ p to k j₀ work j = (j ≤ k) × (length work ≡ length work₀) × (laid work₀ to (words from p k) ≡ laid work (to + j) (words from (p + j) (k - j)))
+
+abbrev μ-loop : tie.MeasureT-loop
+μ-loop from work₀ p to k j₀ work j = k - j
+
+loop-holds : tie.Need-loop-holds Inv-loop μ-loop
+loop-holds c = (omega arith, refl, start-words _ _ _ _ _)
+
+add-work : tie.Need-add-work Inv-loop μ-loop
+add-work c = omega arith
+
+mul-work : tie.Need-mul-work Inv-loop μ-loop
+mul-work c = omega arith
+
+shared-slice-read-work : tie.Need-shared-slice-read-work Inv-loop μ-loop
+shared-slice-read-work c = omega arith
+
+add-work-2 : tie.Need-add-work-2 Inv-loop μ-loop
+add-work-2 c = omega arith
+
+mul-work-2 : tie.Need-mul-work-2 Inv-loop μ-loop
+mul-work-2 c = omega arith
+
+slice-write-work : tie.Need-slice-write-work Inv-loop μ-loop
+slice-write-work c = omega arith
+
+add-j : tie.Need-add-j Inv-loop μ-loop
+add-j c = omega arith
+
+loop-less : tie.Need-loop-less Inv-loop μ-loop
+loop-less c = omega arith
+
+loop-again : tie.Need-loop-again Inv-loop μ-loop
+loop-again c = (omega arith, simp length-set (c .before .before .loop .inv .1), turn-words _ _ _ _ _ _ _ _ (c .before .loop-test .taken) refl (c .before .before .loop .inv .2))
+
+same-length : tie.Need-same-length Inv-loop μ-loop
+same-length c = c .before .loop .inv .1
+
+returns : tie.Need-returns Inv-loop μ-loop
+returns c = end-words _ _ _ _ _ _ _ (c .loop-test .left) (c .before .loop .inv .2)
+
+pub load-spec : {M : Type 1} → statement M
+load-spec =
+    tie.close
+    (tie.spec
+    Inv-loop
+    μ-loop
+    loop-holds
+    add-work
+    mul-work
+    shared-slice-read-work
+    add-work-2
+    mul-work-2
+    slice-write-work
+    add-j
+    loop-less
+    loop-again
+    same-length
+    returns)

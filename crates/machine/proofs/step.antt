@@ -1,0 +1,11 @@
+pub mod Marked
+pub mod Words
+pub mod Skipping
+pub mod Nodes
+pub mod Laying
+pub mod Frames
+pub mod Whole
+pub mod Needed
+pub mod Behind
+pub mod Runs
+pub mod First

@@ -1,0 +1,130 @@
+-- A run of the words is the defined run. Assumes nothing.
+use Prim.Native.Nat.{ℕ, zero, suc, _+_, _*_, _-_, _≤_, _<_, max}
+use mathlib.Core.Bool.{Bool, true, false}
+use mathlib.Core.List.{List, [], _∷_}
+use mathlib.Core.Option.{Option, none, some}
+use mathlib.Core.Path.{_≡_, refl, sym, ap, _∙_, subst}
+use mathlib.Core.Logic.{_⊎_, inl, inr}
+use native.Mathlib.Omega.{arith}
+use lib.ListN.{length}
+use lib.Dec.{ltb, eqb}
+use borrow.Author.Tests.{eq-eqb, ne-eqb}
+use Rattle.machine.specs.Layout.{Top}
+use Rattle.machine.specs.Represents.{Represents, After, Fit}
+use Rattle.machine.specs.Steps.{Steps, placeOf}
+use Rattle.machine.proofs.step.Whole.{fit-sim, fit-next}
+use Rattle.machine.proofs.step.Needed.{fit-mark}
+use Rattle.meaning.specs.Syntax.{Term, File}
+use Rattle.meaning.specs.Syntax as S
+use Rattle.meaning.specs.Machine.{Held, Frame, Store, State, Step, state, step, run, Answer, answers, word, held, constructor-of}
+use Rattle.meaning.specs.Machine as M
+use Rattle.meaning.specs.Plain.{place-of, branch}
+use Rattle.theory.proofs.Answered.{stuck-so}
+use Rattle.meaning.specs.Choice.{pick}
+
+-- a step that ends without a value ends at its node's place
+abbrev Ends-at : ℕ → Step → Type 0
+Ends-at p (M.next st) = Unit {0}
+Ends-at p (M.finished v) = Unit {0}
+Ends-at p (M.stuck a q) = q ≡ p
+
+module _ (file : File) where
+  if-at : (p n : ℕ) (a b : State) → Ends-at p (elim n as (λ _. Step) [ zero ↦ M.next a | suc _ ↦ M.next b ])
+  if-at p zero a b = tt
+  if-at p (suc n) a b = tt
+
+  call-at : (b : Bool) (p : ℕ) (st : State) → Ends-at p (elim b as (λ _. Step) [ false ↦ M.stuck 33 p | true ↦ M.next st ])
+  call-at true p st = tt
+  call-at false p st = refl
+
+  branch-at : (o : Option Term) (p : ℕ) (f : Term → State) → Ends-at p (elim o as (λ _. Step) [ none ↦ M.stuck 31 p | some t ↦ M.next (f t) ])
+  branch-at none p f = refl
+  branch-at (some t) p f = tt
+
+  ends-at : (t : Term) (hs : List Held) (store : Store) (under : List Frame) → Ends-at (place-of t) (step file (state store t hs under))
+  unfolding step
+  ends-at (S.GV p s) hs store [] = tt
+  ends-at (S.GV p s) hs store (f ∷ rest) = tt
+  ends-at (S.AT p c t) hs store under = tt
+  ends-at (S.MK p c k ss t) hs store under = tt
+  ends-at (S.CL p f ss t) hs store under = call-at (ltb (length under) 31) p _
+  ends-at (S.TL p f ss) hs store under = tt
+  ends-at (S.OP p s bs) hs store under = branch-at (branch bs (constructor-of store (word (held hs s)))) p _
+  ends-at (S.LK p s bs) hs store under = branch-at (branch bs (constructor-of store (word (held hs s)))) p _
+  ends-at (S.NU p n t) hs store under = tt
+  ends-at (S.AR p o x y t) hs store under = tt
+  ends-at (S.IF p s t u) hs store under = if-at p (word (held hs s)) _ _
+
+-- the state after n steps of a run that goes on: the rest of the run is the whole run
+abbrev pub Reached : (bytes decl store₀ : List ℕ) (c₀ : Top) (limit n : ℕ) (store : List ℕ) (c : Top) → Type 0
+Reached bytes decl store₀ c₀ limit n store c =
+    (f : Fit bytes decl store₀ c₀) → (g : Fit bytes decl store c) × (run (f .file) limit (f .st) 0 (c₀ .state .most) ≡ run (g .file) (limit - n) (g .st) n (c .state .most))
+
+pub reached-start : (bytes decl store : List ℕ) (c : Top) (limit : ℕ) → Reached bytes decl store c limit 0 store c
+reached-start bytes decl store c limit f = let e : limit ≡ limit - 0 = omega arith in (f, ap (λ k. run (f .file) k (f .st) 0 (c .state .most)) e)
+
+module _ {bytes decl store store′ : List ℕ} {c c′ : Top} (g : Fit bytes decl store c) (s : Steps bytes decl store c store′ c′) where
+  goes : (k n : ℕ) (r : Step) → step (g .file) (g .st) ≡ r → After (g .file) bytes (c .state .most) (g .st .store) store′ c′ r → c′ .state .number ≡ 99
+      → (h : Fit bytes decl store′ c′) × (run (g .file) (suc k) (g .st) n (c .state .most) ≡ run (h .file) k (h .st) (n + 1) (c′ .state .most))
+  unfolding run fit-next
+  goes k n (M.next st) e a z =
+      let q : suc n ≡ n + 1 = omega arith in
+      (fit-next g s e, ap (λ r. elim r as (λ _. Answer) [ M.next st′ ↦ run (g .file) k st′ (suc n) (max (c .state .most) (suc (length (st′ .under)))) | M.finished v ↦ answers 0 v (suc n) 0 (c .state .most) (g .st .store) | M.stuck a p ↦ answers a 0 (suc n) p (c .state .most) (g .st .store) ]) e ∙ (λ i. run (g .file) k st (q i) (sym (a .2) i)))
+  goes k n (M.finished v) e a z = let q = a .1 in absurd (omega arith)
+  goes k n (M.stuck x p) e a z = let q = a .1 in absurd (elim (stuck-so (g .file) (g .st) x p e) [ inl y ↦ omega arith | inr y ↦ omega arith ])
+
+  stops : (k n : ℕ) (r : Step) → step (g .file) (g .st) ≡ r → After (g .file) bytes (c .state .most) (g .st .store) store′ c′ r → (c′ .state .number ≡ 99 → ⊥)
+      → run (g .file) (suc k) (g .st) n (c .state .most) ≡ answers (c′ .state .number) (c′ .state .value) (n + 1) (placeOf (c′ .state)) (c′ .state .most) store′
+  unfolding run placeOf pick
+  stops k n (M.next st) e a z = absurd (z (a .1))
+  stops k n (M.finished v) e a z =
+      let q : suc n ≡ n + 1 = omega arith in
+      let w : placeOf (c′ .state) ≡ 0 = rw (eq-eqb (c′ .state .number) 0 (a .1)) in
+      ap (λ r. elim r as (λ _. Answer) [ M.next st′ ↦ run (g .file) k st′ (suc n) (max (c .state .most) (suc (length (st′ .under)))) | M.finished v ↦ answers 0 v (suc n) 0 (c .state .most) (g .st .store) | M.stuck a p ↦ answers a 0 (suc n) p (c .state .most) (g .st .store) ]) e ∙ (λ i. answers (sym (a .1) i) (sym (a .2) i) (q i) (sym w i) (sym (a .3) i) (sym (a .0) i))
+  stops k n (M.stuck x p) e a z =
+      let q : suc n ≡ n + 1 = omega arith in
+      let y : c′ .state .number ≡ 0 → ⊥ = λ w. elim (stuck-so (g .file) (g .st) x p e) [ inl u ↦ omega (arith, a .1, w, u) | inr u ↦ omega (arith, a .1, w, u) ] in
+      let w : placeOf (c′ .state) ≡ p = rw (ne-eqb (c′ .state .number) 0 y) (a .3) in
+      ap (λ r. elim r as (λ _. Answer) [ M.next st′ ↦ run (g .file) k st′ (suc n) (max (c .state .most) (suc (length (st′ .under)))) | M.finished v ↦ answers 0 v (suc n) 0 (c .state .most) (g .st .store) | M.stuck a p ↦ answers a 0 (suc n) p (c .state .most) (g .st .store) ]) e ∙ (λ i. answers (sym (a .1) i) (sym (a .2) i) (q i) (sym w i) (sym (a .4) i) (sym (a .0) i))
+
+  small : (r : Step) → step (g .file) (g .st) ≡ r → After (g .file) bytes (c .state .most) (g .st .store) store′ c′ r → (c′ .state .number ≡ 99 → ⊥)
+      → (placeOf (c′ .state) ≤ 4096) × (c′ .state .most ≤ 32)
+  unfolding placeOf pick
+  small (M.next st) e a z = absurd (z (a .1))
+  small (M.finished v) e a z =
+      let w : placeOf (c′ .state) ≡ 0 = rw (eq-eqb (c′ .state .number) 0 (a .1)) in
+      (omega (arith, w), omega (arith, a .3, g .high))
+  small (M.stuck x p) e a z =
+      let y : c′ .state .number ≡ 0 → ⊥ = λ w. elim (stuck-so (g .file) (g .st) x p e) [ inl u ↦ omega (arith, a .1, w, u) | inr u ↦ omega (arith, a .1, w, u) ] in
+      let w : placeOf (c′ .state) ≡ c′ .state .frame .at = rw (ne-eqb (c′ .state .number) 0 y) in
+      let q : p ≡ place-of (g .st .top .todo) = subst (λ r. Ends-at (place-of (g .st .top .todo)) r) e (ends-at (g .file) (g .st .top .todo) (g .st .top .slots) (g .st .store) (g .st .under)) in
+      (omega (arith, w, a .3, q, g .represents .here, fit-mark g, g .declared .size), omega (arith, a .4, g .high))
+
+  pub stop-small : (c′ .state .number ≡ 99 → ⊥) → (placeOf (c′ .state) ≤ 4096) × (c′ .state .most ≤ 32)
+  stop-small z = small (step (g .file) (g .st)) refl (fit-sim g s) z
+
+module _ {bytes decl store₀ store store′ : List ℕ} {c₀ c c′ : Top} {limit n : ℕ} where
+  pub reached-next : Reached bytes decl store₀ c₀ limit n store c → Steps bytes decl store c store′ c′ → n < limit → c′ .state .number ≡ 99 → Reached bytes decl store₀ c₀ limit (n + 1) store′ c′
+  reached-next r s l z f =
+      let g = r f in
+      let k : limit - n ≡ suc (limit - (n + 1)) = omega arith in
+      let h = goes (g .0) s (limit - (n + 1)) n (step (g .0 .file) (g .0 .st)) refl (fit-sim (g .0) s) z in
+      (h .0, g .1 ∙ ap (λ k. run (g .0 .file) k (g .0 .st) n (c .state .most)) k ∙ h .1)
+
+  pub reached-stop : Reached bytes decl store₀ c₀ limit n store c → Steps bytes decl store c store′ c′ → n < limit → (c′ .state .number ≡ 99 → ⊥) → (f : Fit bytes decl store₀ c₀)
+      → answers (c′ .state .number) (c′ .state .value) (n + 1) (placeOf (c′ .state)) (c′ .state .most) store′ ≡ run (f .file) limit (f .st) 0 (c₀ .state .most)
+  reached-stop r s l z f =
+      let g = r f in
+      let k : limit - n ≡ suc (limit - (n + 1)) = omega arith in
+      sym (g .1 ∙ ap (λ k. run (g .0 .file) k (g .0 .st) n (c .state .most)) k ∙ stops (g .0) s (limit - (n + 1)) n (step (g .0 .file) (g .0 .st)) refl (fit-sim (g .0) s) z)
+
+module _ {bytes decl store₀ store : List ℕ} {c₀ c : Top} {limit n : ℕ} where
+  pub reached-end : Reached bytes decl store₀ c₀ limit n store c → n ≡ limit → (f : Fit bytes decl store₀ c₀)
+      → answers 32 0 n (c .state .frame .at) (c .state .most) store ≡ run (f .file) limit (f .st) 0 (c₀ .state .most)
+  unfolding run
+  reached-end r e f =
+      let g = r f in
+      let k : limit - n ≡ 0 = omega arith in
+      let p = g .0 .represents .here in
+      let q = g .0 .represents .same in
+      (λ i. answers 32 0 n (p i) (c .state .most) (q i)) ∙ sym (g .1 ∙ ap (λ k. run (g .0 .file) k (g .0 .st) n (c .state .most)) k)

@@ -1,0 +1,65 @@
+-- The proof of `arith`. Assumes nothing.
+use borrow.Author.Needs.{needs}
+use Rattle.machine.proofs.step.arith.Statement.{statement}
+use Rattle.machine.proofs.step.arith.Tie as tie
+use Rattle.machine.proofs.step.arith.Reads as reads
+use Rattle.machine.proofs.step.arith.Lts as lts
+use Rattle.machine.proofs.frame.bind.Reads as bind-reads
+use Rattle.machine.proofs.frame.byte.Reads as byte-reads
+use Rattle.machine.proofs.frame.slot.Reads as slot-reads
+use Rattle.machine.proofs.step.sum.Reads as sum-reads
+use Rattle.machine.specs.Layout.{arOf}
+
+mul-base : tie.Need-mul-base
+mul-base c = search needs
+
+add-slot : tie.Need-add-slot
+add-slot c = search needs
+
+slot-requires : tie.Need-slot-requires
+slot-requires c κs = search needs
+
+add-slot-2 : tie.Need-add-slot-2
+add-slot-2 c = search needs
+
+slot-requires-2 : tie.Need-slot-requires-2
+slot-requires-2 c κs = search needs
+
+add-byte : tie.Need-add-byte
+add-byte c = search needs
+
+byte-requires : tie.Need-byte-requires
+byte-requires c κs = search needs
+
+sum-requires : tie.Need-sum-requires
+sum-requires c κs = search needs
+
+add-bind : tie.Need-add-bind
+add-bind c = search needs
+
+bind-requires : tie.Need-bind-requires
+bind-requires c κs = search needs
+
+same-length : tie.Need-same-length
+same-length c = search needs
+
+returns : tie.Need-returns
+unfolding arOf
+returns c = rw (c .before .before .bind .ensures, c .before .before .before .before .sum .ensures, c .before .before .before .before .before .byte .ensures .0, c .before .before .before .before .before .before .before .before .slot .ensures, c .before .before .before .before .before .before .slot2 .ensures)
+
+pub arith-spec : {M : Type 1} → statement M
+arith-spec =
+    tie.close
+    (tie.spec
+    mul-base
+    add-slot
+    slot-requires
+    add-slot-2
+    slot-requires-2
+    add-byte
+    byte-requires
+    sum-requires
+    add-bind
+    bind-requires
+    same-length
+    returns)

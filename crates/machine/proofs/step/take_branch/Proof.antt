@@ -1,0 +1,80 @@
+-- The proof of `take_branch`. Assumes nothing.
+use borrow.Author.Needs.{needs}
+use Rattle.machine.proofs.step.take_branch.Statement.{statement}
+use Rattle.machine.proofs.step.take_branch.Tie as tie
+use Rattle.machine.proofs.step.take_branch.Reads as reads
+use Rattle.machine.proofs.step.take_branch.Lts as lts
+use Rattle.machine.proofs.frame.byte.Reads as byte-reads
+use Rattle.machine.proofs.frame.finish.Reads as finish-reads
+use Rattle.machine.proofs.frame.slot.Reads as slot-reads
+use Rattle.machine.proofs.step.constructor.Reads as constructor-reads
+use Rattle.machine.proofs.step.find_branch.Reads as find-branch-reads
+use Rattle.machine.proofs.step.opened.Reads as opened-reads
+use native.Mathlib.Omega.{arith}
+use Prim.Native.Nat.{_<_}
+use borrow.Author.Tests.{eq-eqb, ne-eqb}
+use Rattle.machine.specs.Layout.{opOf}
+use Rattle.meaning.specs.Choice.{pick}
+
+mul-slot : tie.Need-mul-slot
+mul-slot c = search needs
+
+add-slot : tie.Need-add-slot
+add-slot c = search needs
+
+slot-requires : tie.Need-slot-requires
+slot-requires c κs = search needs
+
+constructor-requires : tie.Need-constructor-requires
+constructor-requires c κs = rw (c .slot .ensures) (c .before .before .before .before .before .before .pre .0 .cell)
+
+add-find-branch : tie.Need-add-find-branch
+add-find-branch c = search needs
+
+add-byte : tie.Need-add-byte
+add-byte c = search needs
+
+byte-requires : tie.Need-byte-requires
+byte-requires c κs = search needs
+
+find-branch-requires : tie.Need-find-branch-requires
+find-branch-requires c κs = (c .before .before .before .before .before .before .before .before .pre .0 .next, rw (c .byte .ensures .0) (c .before .before .before .before .before .before .before .before .pre .0 .branches))
+
+finish-requires : tie.Need-finish-requires
+finish-requires c κs = search needs
+
+same-length : tie.Need-same-length
+same-length c = search needs
+
+returns : tie.Need-returns
+unfolding opOf pick
+returns c = (c .before .before .find-branch .result, rw (c .before .before .before .before .constructor .ensures, c .before .before .before .before .before .slot .ensures, c .before .before .before .byte .ensures .0) at (c .before .before .find-branch .ensures), rw (eq-eqb _ _ (c .before .if1 .taken), c .finish .ensures))
+
+opened-requires : tie.Need-opened-requires
+opened-requires c κs = let z : 0 < c .before .before .find-branch .result = omega arith in let q = c .before .before .before .before .before .before .before .before .before .before .before .pre .0 .opens _ (rw (c .before .before .before .before .constructor .ensures, c .before .before .before .before .before .slot .ensures, c .before .before .before .byte .ensures .0) at (c .before .before .find-branch .ensures)) z in (c .before .before .before .before .before .before .before .before .before .before .before .pre .0 .room .1, c .before .before .before .before .before .before .before .before .before .before .before .pre .0 .room .2, rw (c .before .before .before .before .constructor .ensures, c .before .before .before .before .before .slot .ensures) (q .0), rw (c .before .before .before .before .constructor .ensures, c .before .before .before .before .before .slot .ensures) (q .1), rw (c .before .before .before .before .before .slot .ensures) (c .before .before .before .before .before .before .before .before .before .before .before .pre .0 .cell), rw (c .before .before .before .before .constructor .ensures, c .before .before .before .before .before .slot .ensures) (q .2), c .before .before .before .before .before .before .before .before .before .before .before .pre .1)
+
+same-length-2 : tie.Need-same-length-2
+same-length-2 c = search needs
+
+returns-2 : tie.Need-returns-2
+unfolding opOf pick
+returns-2 c = (c .before .before .before .before .before .find-branch .result, rw (c .before .before .before .before .before .before .before .constructor .ensures, c .before .before .before .before .before .before .before .before .slot .ensures, c .before .before .before .before .before .before .byte .ensures .0) at (c .before .before .before .before .before .find-branch .ensures), rw (ne-eqb _ _ (c .before .before .before .before .if1 .left), c .before .before .opened .ensures, c .before .before .before .before .before .before .before .constructor .ensures, c .before .before .before .before .before .before .before .before .slot .ensures))
+
+pub take-branch-spec : {M : Type 1} → statement M
+take-branch-spec =
+    tie.close
+    (tie.spec
+    mul-slot
+    add-slot
+    slot-requires
+    constructor-requires
+    add-find-branch
+    add-byte
+    byte-requires
+    find-branch-requires
+    finish-requires
+    same-length
+    returns
+    opened-requires
+    same-length-2
+    returns-2)

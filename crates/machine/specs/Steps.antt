@@ -1,0 +1,61 @@
+-- What a step does, by the mark that it stands at. Assumes nothing.
+use Prim.Native.Nat.{ℕ, zero, suc, _+_, _*_, _-_, _≤_, _<_}
+use mathlib.Core.List.{List}
+use mathlib.Core.Path.{_≡_}
+use lib.Dec.{eqb}
+use Rattle.meaning.specs.Machine.{Answer, answers}
+use Rattle.machine.specs.declared.frame.State.{State}
+use Rattle.machine.specs.declared.step.Ran.{Ran}
+use Rattle.machine.specs.Layout.{Top, moved, slotIn, nuOf, atOf, arOf, gvOf, tlOf, clOf, mkStore, mkOf, conOf, opOf}
+use Rattle.machine.specs.Skips.{Skips, Found}
+use Rattle.standing.specs.Bytes.{byteAt, markAt}
+use Rattle.meaning.specs.Choice.{pick}
+use Rattle.meaning.specs.Marks.{Mark, markOf}
+
+abbrev pub constructorIn : List ℕ → List ℕ → Top → ℕ
+constructorIn bytes store c = conOf store (slotIn bytes (c .work) (c .state .frame .depth * 32) (c .state .frame .at + 2))
+
+-- IF: the first term, or the byte after it
+pub record Chosen (bytes decl : List ℕ) (c : Top) (s : State) : Type 0 where
+  pub at : ℕ
+  pub second : slotIn bytes (c .work) (c .state .frame .depth * 32) (c .state .frame .at + 2) ≡ 0 → Skips bytes decl (c .state .frame .at + 3) at
+  pub first : (slotIn bytes (c .work) (c .state .frame .depth * 32) (c .state .frame .at + 2) ≡ 0 → ⊥) → at ≡ c .state .frame .at + 3
+  pub is : s ≡ moved (c .state) at
+
+-- OP and LK: the branch that is found, and what it starts from
+abbrev pub Opens : (bytes decl store : List ℕ) → (credit : ℕ) → Top → (store′ : List ℕ) → Top → Type 0
+Opens bytes decl store credit c store′ c′ =
+    (store′ ≡ store)
+    × ((b : ℕ) × Found bytes decl (constructorIn bytes store c) (c .state .frame .at + 4) (byteAt bytes (c .state .frame .at + 3)) b × (c′ ≡ opOf bytes decl store c b credit))
+
+abbrev pub StepsAt : Mark → (bytes decl store : List ℕ) → Top → (store′ : List ℕ) → Top → Type 0
+StepsAt Mark.GV bytes decl store c store′ c′ = (store′ ≡ store) × (c′ ≡ gvOf bytes c)
+StepsAt Mark.AT bytes decl store c store′ c′ = (store′ ≡ store) × (c′ ≡ atOf bytes c)
+StepsAt Mark.MK bytes decl store c store′ c′ = (store′ ≡ mkStore bytes decl store c) × (c′ ≡ mkOf bytes decl c)
+StepsAt Mark.CL bytes decl store c store′ c′ = (store′ ≡ store) × (c′ ≡ clOf bytes decl c)
+StepsAt Mark.TL bytes decl store c store′ c′ = (store′ ≡ store) × (c′ ≡ tlOf bytes decl c)
+StepsAt Mark.OP bytes decl store c store′ c′ = Opens bytes decl store 1 c store′ c′
+StepsAt Mark.LK bytes decl store c store′ c′ = Opens bytes decl store 0 c store′ c′
+StepsAt Mark.NU bytes decl store c store′ c′ = (store′ ≡ store) × (c′ ≡ nuOf bytes c)
+StepsAt Mark.AR bytes decl store c store′ c′ = (store′ ≡ store) × (c′ ≡ arOf bytes c)
+StepsAt Mark.IF bytes decl store c store′ c′ = (store′ ≡ store) × Chosen bytes decl c (c′ .state) × (c′ .work ≡ c .work)
+StepsAt Mark.CN bytes decl store c store′ c′ = (store′ ≡ store) × (c′ ≡ c)
+StepsAt Mark.FN bytes decl store c store′ c′ = (store′ ≡ store) × (c′ ≡ c)
+StepsAt Mark.BD bytes decl store c store′ c′ = (store′ ≡ store) × (c′ ≡ c)
+StepsAt Mark.ND bytes decl store c store′ c′ = (store′ ≡ store) × (c′ ≡ c)
+StepsAt Mark.BR bytes decl store c store′ c′ = (store′ ≡ store) × (c′ ≡ c)
+StepsAt Mark.other bytes decl store c store′ c′ = (store′ ≡ store) × (c′ ≡ c)
+
+pub record Steps (bytes decl store : List ℕ) (c : Top) (store′ : List ℕ) (c′ : Top) : Type 0 where
+  pub does : StepsAt (markOf (markAt bytes (c .state .frame .at))) bytes decl store c store′ c′
+
+-- the credits that a mark's branches bind: one for OP
+unfoldable pub creditOf : (mark : ℕ) → ℕ
+creditOf m = pick (eqb m 9) 1 0
+
+-- the place of an answer, and the defined answer
+unfoldable pub placeOf : State → ℕ
+placeOf s = pick (eqb (s .number) 0) 0 (s .frame .at)
+
+abbrev pub answerOf : Ran → List ℕ → Answer
+answerOf r store = answers (r .number) (r .value) (r .steps) (r .place) (r .frames) store

@@ -1,0 +1,206 @@
+// A frame of the machine, the cells of the lent store, the state of a run, and a frame's slots in the lent work area.
+// Slot i of frame d lies at 32 * d + i; at 1024 + 2 * d lies the place where frame d goes on, and behind it its count of slots.
+ghost use mathlib.Core.Path.{_≡_};
+ghost use Prim.Native.Nat.{_+_, _*_, _<_, _≤_};
+ghost use lib.ListN.{length, replicate};
+ghost use Rattle.standing.specs.Bytes.{byteAt};
+ghost use Rattle.machine.specs.Layout.{slotIn, top, moved, ended, bound, laid, gathered, words};
+
+// The top frame: the place of its term, the frames below it, and its slots that are bound.
+pub struct Frame {
+    pub at: usize,
+    pub depth: usize,
+    pub bound: usize,
+}
+
+impl Frame {
+    pub const SLOTS: usize = 32;
+
+    pub const MAX: usize = 32;
+
+    pub const SAVED: usize = 1024;
+
+    // The first frame, with no term and no slots.
+    pub(crate) fn empty() -> Frame
+        ensures { λ r. ⌜ (r .at ≡ 0) × (r .depth ≡ 0) × (r .bound ≡ 0) ⌝ }
+    {
+        Frame {
+            at: 0,
+            depth: 0,
+            bound: 0,
+        }
+    }
+
+    // The first frame with fresh slots: the words given.
+    pub(crate) fn fresh(at: usize, args: &[u32], work: &mut [u32]) -> Frame
+        requires { ⌜ (length (now args) ≤ 32) × (32 ≤ length (now work)) ⌝ }
+        ensures { λ r. ⌜ (r .at ≡ at) × (r .depth ≡ 0) × (r .bound ≡ length (now (args .entry))) × (now (work .exit) ≡ laid (now (work .entry)) 0 (now (args .entry))) ⌝ }
+    {
+        let n = args.len();
+        load(args, work, 0, 0, n);
+        let first = Frame::empty();
+        Frame {
+            at,
+            depth: first.depth,
+            bound: n,
+        }
+    }
+}
+
+// The lent store, by its count of cells: words each, and the word that names the first.
+pub struct Store {
+    pub cells: usize,
+}
+
+impl Store {
+    pub const CELLS: usize = 1024;
+
+    pub const CELL: usize = 5;
+
+    pub const FIRST: u32 = 65536;
+}
+
+// A run's state: the top frame, the greatest number of frames so far, the answer's number (99 while it goes on) and its value.
+pub struct State {
+    pub frame: Frame,
+    pub most: usize,
+    pub number: u32,
+    pub value: u32,
+}
+
+impl State {
+    pub const GOING: u32 = 99;
+}
+
+// The byte at a place.
+pub(crate) fn byte(file: &[u8], at: usize) -> usize
+    requires { ⌜ at < length (now file) ⌝ }
+    ensures { λ r. ⌜ (r ≡ byteAt (now (file .entry)) at) × (r < 256) ⌝ }
+{
+    file[at] as usize
+}
+
+// A word as a place.
+pub(crate) fn wide(x: u32) -> usize
+    ensures { λ r. ⌜ r ≡ x ⌝ }
+{
+    x as usize
+}
+
+// The word of the slot that a byte names.
+pub(crate) fn slot(file: &[u8], work: &[u32], base: usize, at: usize) -> u32
+    requires { ⌜ (at < length (now file)) × (base + 256 ≤ length (now work)) ⌝ }
+    ensures { λ r. ⌜ r ≡ slotIn (now (file .entry)) (now (work .entry)) base at ⌝ }
+{
+    let i = byte(file, at);
+    work[base + i]
+}
+
+// The state at another term, with the same slots.
+pub(crate) fn go_to(s: State, at: usize) -> State
+    ensures { λ r. ⌜ r ≡ moved s at ⌝ }
+{
+    State {
+        frame: Frame {
+            at,
+            depth: s.frame.depth,
+            bound: s.frame.bound,
+        },
+        most: s.most,
+        number: State::GOING,
+        value: 0,
+    }
+}
+
+// The state at the end of a run.
+pub(crate) fn finish(s: State, number: u32, value: u32) -> State
+    ensures { λ r. ⌜ r ≡ ended s number value ⌝ }
+{
+    State {
+        frame: Frame {
+            at: s.frame.at,
+            depth: s.frame.depth,
+            bound: s.frame.bound,
+        },
+        most: s.most,
+        number,
+        value,
+    }
+}
+
+// A word bound to the next slot, and the term that follows.
+pub(crate) fn bind(work: &mut [u32], s: State, v: u32, next: usize) -> State
+    requires { ⌜ (s .frame .depth ≤ 31) × (s .frame .bound < 32) × (1024 ≤ length (now work)) ⌝ }
+    ensures { λ r. ⌜ top r (now (work .exit)) ≡ bound (top s (now (work .entry))) v next ⌝ }
+{
+    let p = s.frame.depth * Frame::SLOTS + s.frame.bound;
+    work[p] = v;
+    State {
+        frame: Frame {
+            at: next,
+            depth: s.frame.depth,
+            bound: s.frame.bound + 1,
+        },
+        most: s.most,
+        number: State::GOING,
+        value: 0,
+    }
+}
+
+// The words of n slots that are named from a place on.
+pub(crate) fn gather(file: &[u8], work: &[u32], base: usize, at: usize, n: usize) -> [u32; 8]
+    requires { ⌜ (at + n ≤ length (now file)) × (base + 256 ≤ length (now work)) × (n ≤ 8) ⌝ }
+    ensures { λ r. ⌜ r ≡ laid (replicate 8 0) 0 (gathered (now (file .entry)) (now (work .entry)) base at n) ⌝ }
+{
+    let mut out = [0u32; 8];
+    let mut j: usize = 0;
+    while j < n {
+        out[j] = slot(file, work, base, at + j);
+        j += 1;
+    }
+    out
+}
+
+// The first n words of an array, laid in the work area.
+pub(crate) fn lay(work: &mut [u32], to: usize, values: [u32; 8], n: usize)
+    requires { ⌜ (to + n ≤ length (now work)) × (n ≤ 8) ⌝ }
+    ensures { λ _. ⌜ now (work .exit) ≡ laid (now (work .entry)) to (words values 0 n) ⌝ }
+{
+    let mut j: usize = 0;
+    while j < n {
+        work[to + j] = values[j];
+        j += 1;
+    }
+}
+
+// The words of a slice from a place on, laid in the work area.
+pub(crate) fn load(from: &[u32], work: &mut [u32], p: usize, to: usize, k: usize)
+    requires { ⌜ (p + k ≤ length (now from)) × (to + k ≤ length (now work)) ⌝ }
+    ensures { λ _. ⌜ now (work .exit) ≡ laid (now (work .entry)) to (words (now (from .entry)) p k) ⌝ }
+{
+    let mut j: usize = 0;
+    while j < k {
+        work[to + j] = from[p + j];
+        j += 1;
+    }
+}
+
+// The words of k slots, laid in the store.
+pub(crate) fn fill(
+    file: &[u8],
+    store: &mut [u32],
+    work: &[u32],
+    base: usize,
+    at: usize,
+    p: usize,
+    k: usize,
+)
+    requires { ⌜ (at + k ≤ length (now file)) × (base + 256 ≤ length (now work)) × (p + k ≤ length (now store)) ⌝ }
+    ensures { λ _. ⌜ now (store .exit) ≡ laid (now (store .entry)) p (gathered (now (file .entry)) (now (work .entry)) base at k) ⌝ }
+{
+    let mut j: usize = 0;
+    while j < k {
+        store[p + j] = slot(file, work, base, at + j);
+        j += 1;
+    }
+}
