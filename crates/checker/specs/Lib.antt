@@ -1,0 +1,4 @@
+pub mod OwnershipBits
+pub mod Slots
+pub mod Ownership
+pub mod OwnershipReady

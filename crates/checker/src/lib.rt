@@ -1,0 +1,3 @@
+// The checker of rule files.
+mod ownership;
+mod slots;
