@@ -1,1 +1,2 @@
 -- The node file of the checker's proofs.
+pub mod Joining

@@ -3,3 +3,8 @@ pub mod Reads
 pub mod Opening
 pub mod Bits
 pub mod Scan
+pub mod OwnershipBits
+pub mod Slots
+pub mod Ownership
+pub mod OwnershipReady
+pub mod Judging

@@ -1,3 +1,64 @@
-// The checker of rule files.
+// The checker: a file's verdict, and what the machine needs of an accepted file.
 mod calls;
+mod ownership;
 mod reading;
+mod slots;
+use crate::calls::shape_of;
+use crate::ownership::check_bodies;
+use crate::ownership::Checked;
+use crate::reading::read_file;
+use meaning::Verdict;
+ghost use mathlib.Core.Path.{_≡_};
+ghost use Prim.Native.Nat.{_<_};
+ghost use Rattle.meaning.specs.Answers.{verdictOf};
+ghost use Rattle.checker.specs.Judging.{refusal, judgedOf};
+
+// The table of declarations of an accepted file; or the answer that refuses a file, and its place.
+pub struct Judged {
+    pub number: u32,
+    pub place: u32,
+    pub table: [u32; 128],
+}
+
+// A file that is refused declares nothing.
+fn refused(number: u32, place: usize) -> Judged
+    requires { ⌜ place < 4294967296 ⌝ }
+    ensures { λ r. ⌜ r ≡ refusal number place ⌝ }
+{
+    Judged {
+        number: number,
+        place: place as u32,
+        table: [255; 128],
+    }
+}
+
+// Answers 1 to 12, or the table of an accepted file.
+pub fn judge(file: &[u8]) -> Judged
+    ensures { λ r. ⌜ r ≡ judgedOf (now (file .entry)) ⌝ }
+{
+    let h = read_file(file);
+    if h.number != 0 {
+        return refused(h.number, h.at);
+    }
+    let table = h.decl;
+    match check_bodies(file, &table, h.funs) {
+        Checked::Fault(number, place) => refused(number, place),
+        Checked::Next(end) => Judged {
+            number: 0,
+            place: 0,
+            table: table,
+        },
+    }
+}
+
+// The verdict on a file.
+pub fn check(file: &[u8]) -> Verdict
+    ensures { λ r. ⌜ r ≡ verdictOf (now (file .entry)) ⌝ }
+{
+    let j = judge(file);
+    if j.number != 0 {
+        return Verdict::Refused(j.number, j.place);
+    }
+    let table = j.table;
+    shape_of(file, &table)
+}

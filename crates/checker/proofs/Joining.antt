@@ -1,0 +1,179 @@
+-- What reading, the ownership check and the shape of the calls come to together: `judgedOf` and `verdictOf`. Assumes nothing.
+use Prim.Native.Nat.{ℕ, zero, suc, _≤_, _<_}
+use mathlib.Core.List.{List}
+use mathlib.Core.Path.{_≡_, refl, sym, ap, _∙_, subst}
+use mathlib.Core.Logic.{_⊎_, inl, inr}
+use native.Mathlib.Omega.{arith}
+use lib.ListN.{length, replicate}
+use Rattle.meaning.specs.declared.Verdict.{Verdict}
+use Rattle.meaning.specs.declared.Verdict.the-variants as verdict
+use Rattle.meaning.specs.Syntax.{File}
+use Rattle.meaning.specs.Outcome.{Outcome, ok, refuse}
+use Rattle.meaning.specs.Reading.{read}
+use Rattle.meaning.specs.Ownership.{check-file}
+use Rattle.meaning.specs.Calls.{shape}
+use Rattle.meaning.specs.Verdict.{accepted}
+use Rattle.meaning.specs.Verdict as checking
+use Rattle.meaning.specs.Answers.{told, verdictOf}
+use Rattle.theory.proofs.Taking.{refused}
+use Rattle.theory.proofs.Refusals.{accepted-numbers}
+use Rattle.standing.specs.Table.{Declared, tableOf}
+use Rattle.standing.proofs.Declaring.{read-declared}
+use Rattle.standing.proofs.Faults.{check-file-inside}
+use Rattle.checker.specs.declared.Judged.{Judged}
+use Rattle.checker.specs.declared.ownership.Checked.{Checked}
+use Rattle.checker.specs.declared.ownership.Checked.the-variants.{Next, Fault}
+use Rattle.checker.specs.Opening.{Ends, FileRead}
+use Rattle.checker.specs.declared.reading.Heads.{Heads}
+use Rattle.checker.specs.OwnershipReady.{spanned, ReadyFile, JudgedFile}
+use Rattle.checker.specs.Judging.{refusal, acceptance, judged, judgedOf}
+
+-- a file that was read, with its table
+pub record Whole (f d : List ℕ) (funs : ℕ) : Type 0 where
+  pub file : File
+  pub reads : read f ≡ ok file
+  pub table : d ≡ tableOf file
+  pub many : length (file .functions) ≡ funs
+
+accepted-unread : (f : List ℕ) (n p : ℕ) → read f ≡ refuse n p → accepted f ≡ refuse n p
+unfolding accepted
+accepted-unread f n p e = rw (e, accepted)
+
+accepted-read : (f : List ℕ) (file : File) (n p : ℕ) → read f ≡ ok file → check-file file ≡ refuse n p → accepted f ≡ refuse n p
+unfolding accepted
+accepted-read f file n p e c = rw (e, c, accepted)
+
+accepted-fine : (f : List ℕ) (file : File) → read f ≡ ok file → check-file file ≡ ok tt → accepted f ≡ ok file
+unfolding accepted
+accepted-fine f file e c = rw (e, c, accepted)
+
+judged-is : (f : List ℕ) (o : Outcome File) → accepted f ≡ o → judged o ≡ judgedOf f
+unfolding judgedOf
+judged-is f o e = sym (ap judged e)
+
+module _ (f : List ℕ) (r : Heads) (e : FileRead f r) where
+  pub ends-place : (r .number ≡ 0 → ⊥) → r .at < 4294967296
+  unfolding FileRead Ends
+  ends-place n = go e
+    where
+      go : Ends f (r .decl) (r .funs) (r .at) (r .number) → r .at < 4294967296
+      go (inl h) = absurd (n (h .0))
+      go (inr h) = omega (arith, h .2)
+
+  pub ends-refused : (r .number ≡ 0 → ⊥) → refusal (r .number) (r .at) ≡ judgedOf f
+  unfolding FileRead Ends
+  ends-refused n = go e
+    where
+      go : Ends f (r .decl) (r .funs) (r .at) (r .number) → refusal (r .number) (r .at) ≡ judgedOf f
+      go (inl h) = absurd (n (h .0))
+      go (inr h) = judged-is f (refuse (r .number) (r .at)) (accepted-unread f (r .number) (r .at) (h .1))
+
+  pub ends-whole : r .number ≡ 0 → Whole f (r .decl) (r .funs)
+  unfolding FileRead Ends
+  ends-whole z = go e
+    where
+      go : Ends f (r .decl) (r .funs) (r .at) (r .number) → Whole f (r .decl) (r .funs)
+      go (inl h) = record { file = h .1; reads = h .2; table = h .3; many = h .4 }
+      go (inr h) = absurd (omega (arith, h .0))
+
+module _ {f d : List ℕ} {funs : ℕ} (w : Whole f d funs) where
+  pub whole-declared : Declared (w .file) f d
+  whole-declared = subst (λ t. Declared (w .file) f t) (sym (w .table)) (read-declared f (w .file) (w .reads))
+
+  pub whole-ready : ReadyFile f d funs
+  whole-ready = record { file = w .file; declared = whole-declared; many = w .many }
+
+  -- what the ownership check says of it
+  checked : {r : Checked} → JudgedFile f d funs r → r ≡ spanned 0 (check-file (w .file))
+  unfolding whole-ready
+  checked j = j .judged whole-ready
+
+  fault-is : {r : Checked} {n p : ℕ} → JudgedFile f d funs r → r ≡ Fault n p → check-file (w .file) ≡ refuse n p
+  unfolding spanned
+  fault-is {r} {n} {p} j e = go (check-file (w .file)) refl
+    where
+      go : (o : Outcome (Unit {0})) → check-file (w .file) ≡ o → check-file (w .file) ≡ refuse n p
+      go (ok u) q =
+          let z : Fault n p ≡ Next 0 = sym e ∙ checked j ∙ ap (spanned 0) q in
+          let y : _≡_ {A = ℕ} 0 1 = cc in
+          absurd (omega arith)
+      go (refuse m k) q =
+          let z : Fault n p ≡ Fault m k = sym e ∙ checked j ∙ ap (spanned 0) q in
+          let a : m ≡ n = cc in
+          let b : k ≡ p = cc in
+          q ∙ (λ i. refuse (a i) (b i))
+
+  pub fault-place : {r : Checked} {n p : ℕ} → JudgedFile f d funs r → r ≡ Fault n p → p < 4294967296
+  fault-place j e = let h = check-file-inside (w .file) f d whole-declared (fault-is j e) in omega (arith, h, whole-declared .size)
+
+  pub fault-refused : {r : Checked} {n p : ℕ} → JudgedFile f d funs r → r ≡ Fault n p → refusal n p ≡ judgedOf f
+  fault-refused {r} {n} {p} j e = judged-is f (refuse n p) (accepted-read f (w .file) n p (w .reads) (fault-is j e))
+
+  next-fine : {r : Checked} {m : ℕ} → JudgedFile f d funs r → r ≡ Next m → check-file (w .file) ≡ ok tt
+  unfolding spanned
+  next-fine {r} {m} j e = go (check-file (w .file)) refl
+    where
+      go : (o : Outcome (Unit {0})) → check-file (w .file) ≡ o → check-file (w .file) ≡ ok tt
+      go (ok u) q = q
+      go (refuse n k) q =
+          let z : Next m ≡ Fault n k = sym e ∙ checked j ∙ ap (spanned 0) q in
+          let y : _≡_ {A = ℕ} 0 1 = cc in
+          absurd (omega arith)
+
+  pub next-accepted : {r : Checked} {m : ℕ} → JudgedFile f d funs r → r ≡ Next m → record { number = 0; place = 0; table = d } ≡ judgedOf f
+  next-accepted j e =
+      ap (λ t. record { number = 0; place = 0; table = t }) (w .table) ∙ judged-is f (ok (w .file)) (accepted-fine f (w .file) (w .reads) (next-fine j e))
+
+-- the verdict, by what was judged
+told-refused : (f : List ℕ) (n p : ℕ) → accepted f ≡ refuse n p → verdict.Refused n p ≡ verdictOf f
+unfolding verdictOf checking.verdict
+told-refused f n p e = rw (e, checking.verdict)
+
+told-accepted : (f : List ℕ) (file : File) → accepted f ≡ ok file → told (ok (shape file)) ≡ verdictOf f
+unfolding verdictOf checking.verdict
+told-accepted f file e = rw (e, checking.verdict)
+
+module _ (f : List ℕ) {j : Judged} (e : j ≡ judgedOf f) where
+  pub judged-refused : (j .number ≡ 0 → ⊥) → verdict.Refused (j .number) (j .place) ≡ verdictOf f
+  unfolding judgedOf
+  judged-refused n = go (accepted f) refl
+    where
+      go : (o : Outcome File) → accepted f ≡ o → verdict.Refused (j .number) (j .place) ≡ verdictOf f
+      go (ok file) q = absurd (n (ap (λ x. x .number) (e ∙ ap judged q)))
+      go (refuse m p) q =
+          let a : j ≡ refusal m p = e ∙ ap judged q in
+          (λ i. verdict.Refused (a i .number) (a i .place)) ∙ told-refused f m p q
+
+  -- the tree of an accepted file
+  pub record Accepts : Type 0 where
+    pub file : File
+    pub fine : accepted f ≡ ok file
+    pub table : j .table ≡ tableOf file
+
+  pub judged-accepts : j .number ≡ 0 → Accepts
+  unfolding judgedOf
+  judged-accepts z = go (accepted f) refl
+    where
+      go : (o : Outcome File) → accepted f ≡ o → Accepts
+      go (ok file) q = record { file = file; fine = q; table = ap (λ x. x .table) (e ∙ ap judged q) }
+      go (refuse m p) q =
+          let a : j .number ≡ m = ap (λ x. x .number) (e ∙ ap judged q) in
+          absurd (omega (arith, accepted-numbers f q))
+
+  read-of : (file : File) → accepted f ≡ ok file → read f ≡ ok file
+  unfolding accepted
+  read-of file q = go (read f) refl
+    where
+      checked-of : (g : File) (o : Outcome (Unit {0})) → check-file g ≡ o → read f ≡ ok g → read f ≡ ok file
+      checked-of g (ok u) c r = r ∙ sym (accepted-fine f g r c) ∙ q
+      checked-of g (refuse m p) c r = absurd (refused (sym (accepted-read f g m p r c) ∙ q))
+
+      go : (o : Outcome File) → read f ≡ o → read f ≡ ok file
+      go (ok g) r = checked-of g (check-file g) refl r
+      go (refuse m p) r = absurd (refused (sym (accepted-unread f m p r) ∙ q))
+
+  pub accepts-declared : (a : Accepts) → Declared (a .file) f (j .table)
+  accepts-declared a = subst (λ t. Declared (a .file) f t) (sym (a .table)) (read-declared f (a .file) (read-of (a .file) (a .fine)))
+
+  pub accepts-told : (a : Accepts) → {v : Verdict} → ((tree : File) → Declared tree f (j .table) → v ≡ told (ok (shape tree))) → v ≡ verdictOf f
+  accepts-told a h = h (a .file) (accepts-declared a) ∙ told-accepted f (a .file) (a .fine)

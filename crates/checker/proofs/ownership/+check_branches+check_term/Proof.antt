@@ -1,0 +1,249 @@
+-- `checker::ownership::check_term` and `check_branches` meet their contracts; bytes left fall. Assumes nothing.
+use Prim.Native.Nat.{ℕ, _<_}
+use borrow.Fn.Kinds.{In}
+use borrow.Fn.PlainCycle.{Measures, is, falls, and}
+use Rattle.checker.proofs.ownership.check_branches.Reads as check-branches
+use Rattle.checker.proofs.ownership.check_branches.Kinds as check-branches-kinds
+use Rattle.checker.proofs.ownership.+check_branches+check_term.Lts-check_branches as check-branches-lts
+use Rattle.checker.proofs.ownership.check_term.Reads as check-term
+use Rattle.checker.proofs.ownership.check_term.Kinds as check-term-kinds
+use Rattle.checker.proofs.ownership.+check_branches+check_term.Lts-check_term as check-term-lts
+use Rattle.checker.proofs.ownership.arity.Reads as arity-reads
+use Rattle.checker.proofs.ownership.binds.Reads as binds-reads
+use Rattle.checker.proofs.ownership.bound_kind.Reads as bound-kind-reads
+use Rattle.checker.proofs.ownership.branch_slots.Reads as branch-slots-reads
+use Rattle.checker.proofs.ownership.byte.Reads as byte-reads
+use Rattle.checker.proofs.ownership.credits.Reads as credits-reads
+use Rattle.checker.proofs.ownership.follows.Reads as follows-reads
+use Rattle.checker.proofs.ownership.mark.Reads as mark-reads
+use Rattle.checker.proofs.ownership.seeing.Reads as seeing-reads
+use Rattle.checker.proofs.ownership.sees.Reads as sees-reads
+use Rattle.checker.proofs.ownership.take_record.Reads as take-record-reads
+use Rattle.checker.proofs.slots.keep.Reads as keep-reads
+use Rattle.checker.proofs.ownership.+check_branches+check_term.{statement}
+use Rattle.checker.proofs.ownership.+check_branches+check_term.Tie.{close}
+use native.Mathlib.Omega.{arith}
+use borrow.Author.Needs.{needs}
+use Prim.Native.Nat.{_-_, _+_, _*_, suc, _≤_}
+use mathlib.Core.Path.{_≡_, refl, sym, ap, _∙_, subst}
+use mathlib.Core.Bool.{true, false}
+use lib.ListN.{length}
+use Rattle.checker.proofs.ownership.Cycle.{ready-low, room, stops, made, leaf-judged, one-ready, one-less, one-judged, two-ready, two-less, two-stops, second-ready, second-less, two-judged, many-ready, many-less, many-judged}
+use Rattle.checker.proofs.ownership.Branching.{end-judged, branch-low, branch-twice, branch-stops, rest-ready, rest-less, branch-judged, Opened, bit-is, more-eq, opened-ready, opened-judged, rest-judged}
+
+abbrev μ-check-branches : Measures 2 check-branches-kinds.ps ℕ
+μ-check-branches κs a = length (a .0 .now) - a .1 .1 .0
+
+abbrev μ-check-term : Measures 2 check-term-kinds.ps ℕ
+μ-check-term κs a = length (a .0 .now) - a .1 .1 .0
+
+abbrev check-branches-at : ℕ → In 2 check-branches-kinds.ps
+check-branches-at t =
+    and
+    2
+    check-branches-kinds.ps
+    (is 2 check-branches-kinds.ps μ-check-branches t)
+    check-branches.Pre
+
+abbrev check-branches-below : ℕ → In 2 check-branches-kinds.ps
+check-branches-below t =
+    and
+    2
+    check-branches-kinds.ps
+    (falls 2 check-branches-kinds.ps _<_ μ-check-branches t)
+    check-branches.Pre
+
+abbrev check-term-at : ℕ → In 2 check-term-kinds.ps
+check-term-at t =
+    and 2 check-term-kinds.ps (is 2 check-term-kinds.ps μ-check-term t) check-term.Pre
+
+abbrev check-term-below : ℕ → In 2 check-term-kinds.ps
+check-term-below t =
+    and 2 check-term-kinds.ps (falls 2 check-term-kinds.ps _<_ μ-check-term t) check-term.Pre
+
+abbrev check-branches-calls : ℕ → check-branches-lts.Claims
+check-branches-calls t = (byte-reads.Asked, byte-reads.Learnt, sees-reads.Asked, sees-reads.Learnt, arity-reads.Asked, arity-reads.Learnt, branch-slots-reads.Asked, branch-slots-reads.Learnt, credits-reads.Asked, credits-reads.Learnt, check-term-below t, check-term.Post, seeing-reads.Asked, seeing-reads.Learnt, check-branches-below t, check-branches.Post)
+
+abbrev check-term-calls : ℕ → check-term-lts.Claims
+check-term-calls t = (mark-reads.Asked, mark-reads.Learnt, take-record-reads.Asked, take-record-reads.Learnt, binds-reads.Asked, binds-reads.Learnt, bound-kind-reads.Asked, bound-kind-reads.Learnt, keep-reads.Asked, keep-reads.Learnt, follows-reads.Asked, follows-reads.Learnt, check-term-below t, check-term.Post, check-branches-below t, check-branches.Post)
+
+check-branches-returns : (t : ℕ) → check-branches-lts.Need-returns (check-branches-calls t) (check-branches-at t) check-branches.Post
+check-branches-returns t c = end-judged (c .before .before .args .file .now) (c .before .before .args .decl .now) (c .before .before .args .at) (c .before .before .args .left) (c .before .before .args .credit) (c .before .before .args .result) (c .before .before .args .slots) (c .before .before .good .1 .1 .1 .1 .1 .1 .1 .0 .1 .0 .1) (c .before .before .args .bound) _ (c .if1 .taken)
+
+check-branches-add-byte : (t : ℕ) → check-branches-lts.Need-add-byte (check-branches-calls t) (check-branches-at t) check-branches.Post
+check-branches-add-byte t c = let low = branch-low (c .before .before .args .file .now) (c .before .before .args .decl .now) (c .before .before .args .at) (c .before .before .args .left) (c .before .before .args .credit) (c .before .before .args .result) (c .before .before .args .slots) (c .before .before .good .1 .1 .1 .1 .1 .1 .1 .0 .1 .0 .1) (c .before .before .args .bound) (c .if1 .left) (c .before .before .pre .1) in omega (arith, low .0)
+
+check-branches-byte-requires : (t : ℕ) → check-branches-lts.Need-byte-requires (check-branches-calls t) (check-branches-at t) check-branches.Post
+check-branches-byte-requires t c κs = search needs
+
+check-branches-sees-requires : (t : ℕ) → check-branches-lts.Need-sees-requires (check-branches-calls t) (check-branches-at t) check-branches.Post
+check-branches-sees-requires t c κs = let low = branch-low (c .before .before .before .args .file .now) (c .before .before .before .args .decl .now) (c .before .before .before .args .at) (c .before .before .before .args .left) (c .before .before .before .args .credit) (c .before .before .before .args .result) (c .before .before .before .args .slots) (c .before .before .before .good .1 .1 .1 .1 .1 .1 .1 .0 .1 .0 .1) (c .before .before .before .args .bound) (c .before .if1 .left) (c .before .before .before .pre .1) in rw (c .byte .ensures .0) (low .2)
+
+check-branches-add-t20 : (t : ℕ) → check-branches-lts.Need-add-t20 (check-branches-calls t) (check-branches-at t) check-branches.Post
+check-branches-add-t20 t c = let low = branch-low (c .before .before .before .before .before .args .file .now) (c .before .before .before .before .before .args .decl .now) (c .before .before .before .before .before .args .at) (c .before .before .before .before .before .args .left) (c .before .before .before .before .before .args .credit) (c .before .before .before .before .before .args .result) (c .before .before .before .before .before .args .slots) (c .before .before .before .before .before .good .1 .1 .1 .1 .1 .1 .1 .0 .1 .0 .1) (c .before .before .before .before .before .args .bound) (c .before .before .before .if1 .left) (c .before .before .before .before .before .pre .1) in omega (arith, low .0)
+
+check-branches-returns-2 : (t : ℕ) → check-branches-lts.Need-returns-2 (check-branches-calls t) (check-branches-at t) check-branches.Post
+check-branches-returns-2 t c = branch-twice (c .before .before .before .before .before .args .file .now) (c .before .before .before .before .before .args .decl .now) (c .before .before .before .before .before .args .at) (c .before .before .before .before .before .args .left) (c .before .before .before .before .before .args .credit) (c .before .before .before .before .before .args .result) (c .before .before .before .before .before .args .slots) (c .before .before .before .before .before .good .1 .1 .1 .1 .1 .1 .1 .0 .1 .0 .1) (c .before .before .before .before .before .args .bound) (c .before .before .before .if1 .left) _ (bit-is (c .before .before .before .before .before .args .file .now) (c .before .before .before .before .before .args .decl .now) (c .before .before .before .before .before .args .at) (c .before .before .before .before .before .args .left) (c .before .before .before .before .before .args .credit) (c .before .before .before .before .before .args .result) (c .before .before .before .before .before .args .slots) (c .before .before .before .before .before .good .1 .1 .1 .1 .1 .1 .1 .0 .1 .0 .1) (c .before .before .before .before .before .args .bound) (c .before .before .byte .result) (c .before .before .before .before .before .args .seen) _ true (c .before .before .byte .ensures .0) (c .before .sees .ensures) (c .if2 .taken))
+
+check-branches-arity-requires : (t : ℕ) → check-branches-lts.Need-arity-requires (check-branches-calls t) (check-branches-at t) check-branches.Post
+check-branches-arity-requires t c κs = c .before .before .before .before .before .pre .1 .declared .wide
+
+check-branches-branch-slots-requires : (t : ℕ) → check-branches-lts.Need-branch-slots-requires (check-branches-calls t) (check-branches-at t) check-branches.Post
+check-branches-branch-slots-requires t c κs = let low = branch-low (c .before .before .before .before .before .before .args .file .now) (c .before .before .before .before .before .before .args .decl .now) (c .before .before .before .before .before .before .args .at) (c .before .before .before .before .before .before .args .left) (c .before .before .before .before .before .before .args .credit) (c .before .before .before .before .before .before .args .result) (c .before .before .before .before .before .before .args .slots) (c .before .before .before .before .before .before .good .1 .1 .1 .1 .1 .1 .1 .0 .1 .0 .1) (c .before .before .before .before .before .before .args .bound) (c .before .before .before .before .if1 .left) (c .before .before .before .before .before .before .pre .1) in (c .before .before .before .byte .ensures .1, low .1, low .4, rw (c .before .before .before .byte .ensures .0) (low .3), c .before .before .before .before .before .before .pre .1 .declared .wide)
+
+check-branches-add-more : (t : ℕ) → check-branches-lts.Need-add-more (check-branches-calls t) (check-branches-at t) check-branches.Post
+check-branches-add-more t c = omega (arith, c .before .before .before .before .before .before .before .pre .1 .few, c .before .arity .ensures .1)
+
+check-branches-credits-requires : (t : ℕ) → check-branches-lts.Need-credits-requires (check-branches-calls t) (check-branches-at t) check-branches.Post
+check-branches-credits-requires t c κs = search needs
+
+check-branches-add-more-2 : (t : ℕ) → check-branches-lts.Need-add-more-2 (check-branches-calls t) (check-branches-at t) check-branches.Post
+check-branches-add-more-2 t c = let low = branch-low (c .before .before .before .before .before .before .before .before .args .file .now) (c .before .before .before .before .before .before .before .before .args .decl .now) (c .before .before .before .before .before .before .before .before .args .at) (c .before .before .before .before .before .before .before .before .args .left) (c .before .before .before .before .before .before .before .before .args .credit) (c .before .before .before .before .before .before .before .before .args .result) (c .before .before .before .before .before .before .before .before .args .slots) (c .before .before .before .before .before .before .before .before .good .1 .1 .1 .1 .1 .1 .1 .0 .1 .0 .1) (c .before .before .before .before .before .before .before .before .args .bound) (c .before .before .before .before .before .before .if1 .left) (c .before .before .before .before .before .before .before .before .pre .1) in let o : Opened (c .before .before .before .before .before .before .before .before .args .file .now) (c .before .before .before .before .before .before .before .before .args .decl .now) (c .before .before .before .before .before .before .before .before .args .at) (c .before .before .before .before .before .before .before .before .args .left) (c .before .before .before .before .before .before .before .before .args .credit) (c .before .before .before .before .before .before .before .before .args .result) (c .before .before .before .before .before .before .before .before .args .slots) (c .before .before .before .before .before .before .before .before .good .1 .1 .1 .1 .1 .1 .1 .0 .1 .0 .1) (c .before .before .before .before .before .before .before .before .args .bound) (c .before .before .before .before .before .byte .result) (c .before .before .arity .result) (c .credits .result) (c .before .branch-slots .result) = record { con = c .before .before .before .before .before .byte .ensures .0; arity = c .before .before .arity .ensures .0; extra = c .credits .ensures; kept = c .before .branch-slots .ensures } in omega (arith, low .3, more-eq (c .before .before .before .before .before .before .before .before .args .file .now) (c .before .before .before .before .before .before .before .before .args .decl .now) (c .before .before .before .before .before .before .before .before .args .at) (c .before .before .before .before .before .before .before .before .args .left) (c .before .before .before .before .before .before .before .before .args .credit) (c .before .before .before .before .before .before .before .before .args .result) (c .before .before .before .before .before .before .before .before .args .slots) (c .before .before .before .before .before .before .before .before .good .1 .1 .1 .1 .1 .1 .1 .0 .1 .0 .1) (c .before .before .before .before .before .before .before .before .args .bound) o)
+
+check-branches-add-check-term : (t : ℕ) → check-branches-lts.Need-add-check-term (check-branches-calls t) (check-branches-at t) check-branches.Post
+check-branches-add-check-term t c = let low = branch-low (c .before .before .before .before .before .before .before .before .args .file .now) (c .before .before .before .before .before .before .before .before .args .decl .now) (c .before .before .before .before .before .before .before .before .args .at) (c .before .before .before .before .before .before .before .before .args .left) (c .before .before .before .before .before .before .before .before .args .credit) (c .before .before .before .before .before .before .before .before .args .result) (c .before .before .before .before .before .before .before .before .args .slots) (c .before .before .before .before .before .before .before .before .good .1 .1 .1 .1 .1 .1 .1 .0 .1 .0 .1) (c .before .before .before .before .before .before .before .before .args .bound) (c .before .before .before .before .before .before .if1 .left) (c .before .before .before .before .before .before .before .before .pre .1) in omega (arith, low .0)
+
+check-branches-check-term-requires : (t : ℕ) → check-branches-lts.Need-check-term-requires (check-branches-calls t) (check-branches-at t) check-branches.Post
+check-branches-check-term-requires t c κs = let low = branch-low (c .before .before .before .before .before .before .before .before .args .file .now) (c .before .before .before .before .before .before .before .before .args .decl .now) (c .before .before .before .before .before .before .before .before .args .at) (c .before .before .before .before .before .before .before .before .args .left) (c .before .before .before .before .before .before .before .before .args .credit) (c .before .before .before .before .before .before .before .before .args .result) (c .before .before .before .before .before .before .before .before .args .slots) (c .before .before .before .before .before .before .before .before .good .1 .1 .1 .1 .1 .1 .1 .0 .1 .0 .1) (c .before .before .before .before .before .before .before .before .args .bound) (c .before .before .before .before .before .before .if1 .left) (c .before .before .before .before .before .before .before .before .pre .1) in let o : Opened (c .before .before .before .before .before .before .before .before .args .file .now) (c .before .before .before .before .before .before .before .before .args .decl .now) (c .before .before .before .before .before .before .before .before .args .at) (c .before .before .before .before .before .before .before .before .args .left) (c .before .before .before .before .before .before .before .before .args .credit) (c .before .before .before .before .before .before .before .before .args .result) (c .before .before .before .before .before .before .before .before .args .slots) (c .before .before .before .before .before .before .before .before .good .1 .1 .1 .1 .1 .1 .1 .0 .1 .0 .1) (c .before .before .before .before .before .before .before .before .args .bound) (c .before .before .before .before .before .byte .result) (c .before .before .arity .result) (c .credits .result) (c .before .branch-slots .result) = record { con = c .before .before .before .before .before .byte .ensures .0; arity = c .before .before .arity .ensures .0; extra = c .credits .ensures; kept = c .before .branch-slots .ensures } in (omega (arith, low .0), opened-ready (c .before .before .before .before .before .before .before .before .args .file .now) (c .before .before .before .before .before .before .before .before .args .decl .now) (c .before .before .before .before .before .before .before .before .args .at) (c .before .before .before .before .before .before .before .before .args .left) (c .before .before .before .before .before .before .before .before .args .credit) (c .before .before .before .before .before .before .before .before .args .result) (c .before .before .before .before .before .before .before .before .args .slots) (c .before .before .before .before .before .before .before .before .good .1 .1 .1 .1 .1 .1 .1 .0 .1 .0 .1) (c .before .before .before .before .before .before .before .before .args .bound) o (c .before .before .before .before .before .before .if1 .left) (c .before .before .before .before .before .before .before .before .pre .1))
+
+check-branches-enum-known-next : (t : ℕ) → check-branches-lts.Need-enum-known-next (check-branches-calls t) (check-branches-at t) check-branches.Post
+check-branches-enum-known-next t c = search needs
+
+check-branches-sub-check-branches : (t : ℕ) → check-branches-lts.Need-sub-check-branches (check-branches-calls t) (check-branches-at t) check-branches.Post
+check-branches-sub-check-branches t c = omega arith
+
+check-branches-seeing-requires : (t : ℕ) → check-branches-lts.Need-seeing-requires (check-branches-calls t) (check-branches-at t) check-branches.Post
+check-branches-seeing-requires t c κs = let low = branch-low (c .before .before .before .before .before .before .before .before .before .before .before .before .args .file .now) (c .before .before .before .before .before .before .before .before .before .before .before .before .args .decl .now) (c .before .before .before .before .before .before .before .before .before .before .before .before .args .at) (c .before .before .before .before .before .before .before .before .before .before .before .before .args .left) (c .before .before .before .before .before .before .before .before .before .before .before .before .args .credit) (c .before .before .before .before .before .before .before .before .before .before .before .before .args .result) (c .before .before .before .before .before .before .before .before .before .before .before .before .args .slots) (c .before .before .before .before .before .before .before .before .before .before .before .before .good .1 .1 .1 .1 .1 .1 .1 .0 .1 .0 .1) (c .before .before .before .before .before .before .before .before .before .before .before .before .args .bound) (c .before .before .before .before .before .before .before .before .before .before .if1 .left) (c .before .before .before .before .before .before .before .before .before .before .before .before .pre .1) in rw (c .before .before .before .before .before .before .before .before .before .byte .ensures .0) (low .2)
+
+check-branches-check-branches-requires : (t : ℕ) → check-branches-lts.Need-check-branches-requires (check-branches-calls t) (check-branches-at t) check-branches.Post
+check-branches-check-branches-requires t c κs = let low = branch-low (c .before .before .before .before .before .before .before .before .before .before .before .before .before .args .file .now) (c .before .before .before .before .before .before .before .before .before .before .before .before .before .args .decl .now) (c .before .before .before .before .before .before .before .before .before .before .before .before .before .args .at) (c .before .before .before .before .before .before .before .before .before .before .before .before .before .args .left) (c .before .before .before .before .before .before .before .before .before .before .before .before .before .args .credit) (c .before .before .before .before .before .before .before .before .before .before .before .before .before .args .result) (c .before .before .before .before .before .before .before .before .before .before .before .before .before .args .slots) (c .before .before .before .before .before .before .before .before .before .before .before .before .before .good .1 .1 .1 .1 .1 .1 .1 .0 .1 .0 .1) (c .before .before .before .before .before .before .before .before .before .before .before .before .before .args .bound) (c .before .before .before .before .before .before .before .before .before .before .before .if1 .left) (c .before .before .before .before .before .before .before .before .before .before .before .before .before .pre .1) in let o : Opened (c .before .before .before .before .before .before .before .before .before .before .before .before .before .args .file .now) (c .before .before .before .before .before .before .before .before .before .before .before .before .before .args .decl .now) (c .before .before .before .before .before .before .before .before .before .before .before .before .before .args .at) (c .before .before .before .before .before .before .before .before .before .before .before .before .before .args .left) (c .before .before .before .before .before .before .before .before .before .before .before .before .before .args .credit) (c .before .before .before .before .before .before .before .before .before .before .before .before .before .args .result) (c .before .before .before .before .before .before .before .before .before .before .before .before .before .args .slots) (c .before .before .before .before .before .before .before .before .before .before .before .before .before .good .1 .1 .1 .1 .1 .1 .1 .0 .1 .0 .1) (c .before .before .before .before .before .before .before .before .before .before .before .before .before .args .bound) (c .before .before .before .before .before .before .before .before .before .before .byte .result) (c .before .before .before .before .before .before .before .arity .result) (c .before .before .before .before .before .credits .result) (c .before .before .before .before .before .before .branch-slots .result) = record { con = c .before .before .before .before .before .before .before .before .before .before .byte .ensures .0; arity = c .before .before .before .before .before .before .before .arity .ensures .0; extra = c .before .before .before .before .before .credits .ensures; kept = c .before .before .before .before .before .before .branch-slots .ensures } in let j = (opened-judged (c .before .before .before .before .before .before .before .before .before .before .before .before .before .args .file .now) (c .before .before .before .before .before .before .before .before .before .before .before .before .before .args .decl .now) (c .before .before .before .before .before .before .before .before .before .before .before .before .before .args .at) (c .before .before .before .before .before .before .before .before .before .before .before .before .before .args .left) (c .before .before .before .before .before .before .before .before .before .before .before .before .before .args .credit) (c .before .before .before .before .before .before .before .before .before .before .before .before .before .args .result) (c .before .before .before .before .before .before .before .before .before .before .before .before .before .args .slots) (c .before .before .before .before .before .before .before .before .before .before .before .before .before .good .1 .1 .1 .1 .1 .1 .1 .0 .1 .0 .1) (c .before .before .before .before .before .before .before .before .before .before .before .before .before .args .bound) o (c .before .before .before .before .check-term .ensures)) in (omega (arith, low .0, rest-less (c .before .before .before .before .before .before .before .before .before .before .before .before .before .args .file .now) (c .before .before .before .before .before .before .before .before .before .before .before .before .before .args .decl .now) (c .before .before .before .before .before .before .before .before .before .before .before .before .before .args .at) (c .before .before .before .before .before .before .before .before .before .before .before .before .before .args .left) (c .before .before .before .before .before .before .before .before .before .before .before .before .before .args .credit) (c .before .before .before .before .before .before .before .before .before .before .before .before .before .args .result) (c .before .before .before .before .before .before .before .before .before .before .before .before .before .args .slots) (c .before .before .before .before .before .before .before .before .before .before .before .before .before .good .1 .1 .1 .1 .1 .1 .1 .0 .1 .0 .1) (c .before .before .before .before .before .before .before .before .before .before .before .before .before .args .bound) (c .before .before .before .before .before .before .before .before .before .before .before .if1 .left) j (c .before .before .next .given .1) (c .before .before .before .before .before .before .before .before .before .before .before .before .before .pre .1)), rest-ready (c .before .before .before .before .before .before .before .before .before .before .before .before .before .args .file .now) (c .before .before .before .before .before .before .before .before .before .before .before .before .before .args .decl .now) (c .before .before .before .before .before .before .before .before .before .before .before .before .before .args .at) (c .before .before .before .before .before .before .before .before .before .before .before .before .before .args .left) (c .before .before .before .before .before .before .before .before .before .before .before .before .before .args .credit) (c .before .before .before .before .before .before .before .before .before .before .before .before .before .args .result) (c .before .before .before .before .before .before .before .before .before .before .before .before .before .args .slots) (c .before .before .before .before .before .before .before .before .before .before .before .before .before .good .1 .1 .1 .1 .1 .1 .1 .0 .1 .0 .1) (c .before .before .before .before .before .before .before .before .before .before .before .before .before .args .bound) (c .before .before .before .before .before .before .before .before .before .before .before .if1 .left) j (c .before .before .next .given .1) (c .before .before .before .before .before .before .before .before .before .before .before .before .before .pre .1))
+
+check-branches-enum-known-number : (t : ℕ) → check-branches-lts.Need-enum-known-number (check-branches-calls t) (check-branches-at t) check-branches.Post
+check-branches-enum-known-number t c = search needs
+
+check-branches-returns-3 : (t : ℕ) → check-branches-lts.Need-returns-3 (check-branches-calls t) (check-branches-at t) check-branches.Post
+check-branches-returns-3 t c = let o : Opened (c .before .before .before .before .before .before .before .before .before .before .before .before .before .before .args .file .now) (c .before .before .before .before .before .before .before .before .before .before .before .before .before .before .args .decl .now) (c .before .before .before .before .before .before .before .before .before .before .before .before .before .before .args .at) (c .before .before .before .before .before .before .before .before .before .before .before .before .before .before .args .left) (c .before .before .before .before .before .before .before .before .before .before .before .before .before .before .args .credit) (c .before .before .before .before .before .before .before .before .before .before .before .before .before .before .args .result) (c .before .before .before .before .before .before .before .before .before .before .before .before .before .before .args .slots) (c .before .before .before .before .before .before .before .before .before .before .before .before .before .before .good .1 .1 .1 .1 .1 .1 .1 .0 .1 .0 .1) (c .before .before .before .before .before .before .before .before .before .before .before .before .before .before .args .bound) (c .before .before .before .before .before .before .before .before .before .before .before .byte .result) (c .before .before .before .before .before .before .before .before .arity .result) (c .before .before .before .before .before .before .credits .result) (c .before .before .before .before .before .before .before .branch-slots .result) = record { con = c .before .before .before .before .before .before .before .before .before .before .before .byte .ensures .0; arity = c .before .before .before .before .before .before .before .before .arity .ensures .0; extra = c .before .before .before .before .before .before .credits .ensures; kept = c .before .before .before .before .before .before .before .branch-slots .ensures } in branch-judged (c .before .before .before .before .before .before .before .before .before .before .before .before .before .before .args .file .now) (c .before .before .before .before .before .before .before .before .before .before .before .before .before .before .args .decl .now) (c .before .before .before .before .before .before .before .before .before .before .before .before .before .before .args .at) (c .before .before .before .before .before .before .before .before .before .before .before .before .before .before .args .left) (c .before .before .before .before .before .before .before .before .before .before .before .before .before .before .args .credit) (c .before .before .before .before .before .before .before .before .before .before .before .before .before .before .args .result) (c .before .before .before .before .before .before .before .before .before .before .before .before .before .before .args .slots) (c .before .before .before .before .before .before .before .before .before .before .before .before .before .before .good .1 .1 .1 .1 .1 .1 .1 .0 .1 .0 .1) (c .before .before .before .before .before .before .before .before .before .before .before .before .before .before .args .bound) (c .before .before .before .before .before .before .before .before .before .before .before .before .if1 .left) (opened-judged (c .before .before .before .before .before .before .before .before .before .before .before .before .before .before .args .file .now) (c .before .before .before .before .before .before .before .before .before .before .before .before .before .before .args .decl .now) (c .before .before .before .before .before .before .before .before .before .before .before .before .before .before .args .at) (c .before .before .before .before .before .before .before .before .before .before .before .before .before .before .args .left) (c .before .before .before .before .before .before .before .before .before .before .before .before .before .before .args .credit) (c .before .before .before .before .before .before .before .before .before .before .before .before .before .before .args .result) (c .before .before .before .before .before .before .before .before .before .before .before .before .before .before .args .slots) (c .before .before .before .before .before .before .before .before .before .before .before .before .before .before .good .1 .1 .1 .1 .1 .1 .1 .0 .1 .0 .1) (c .before .before .before .before .before .before .before .before .before .before .before .before .before .before .args .bound) o (c .before .before .before .before .before .check-term .ensures)) _ (bit-is (c .before .before .before .before .before .before .before .before .before .before .before .before .before .before .args .file .now) (c .before .before .before .before .before .before .before .before .before .before .before .before .before .before .args .decl .now) (c .before .before .before .before .before .before .before .before .before .before .before .before .before .before .args .at) (c .before .before .before .before .before .before .before .before .before .before .before .before .before .before .args .left) (c .before .before .before .before .before .before .before .before .before .before .before .before .before .before .args .credit) (c .before .before .before .before .before .before .before .before .before .before .before .before .before .before .args .result) (c .before .before .before .before .before .before .before .before .before .before .before .before .before .before .args .slots) (c .before .before .before .before .before .before .before .before .before .before .before .before .before .before .good .1 .1 .1 .1 .1 .1 .1 .0 .1 .0 .1) (c .before .before .before .before .before .before .before .before .before .before .before .before .before .before .args .bound) (c .before .before .before .before .before .before .before .before .before .before .before .byte .result) (c .before .before .before .before .before .before .before .before .before .before .before .before .before .before .args .seen) _ false (c .before .before .before .before .before .before .before .before .before .before .before .byte .ensures .0) (c .before .before .before .before .before .before .before .before .before .before .sees .ensures) (c .before .before .before .before .before .before .before .before .before .if2 .left)) (c .before .before .before .next .given .1) (rest-judged (c .before .before .before .before .before .before .before .before .before .before .before .before .before .before .args .file .now) (c .before .before .before .before .before .before .before .before .before .before .before .before .before .before .args .decl .now) (c .before .before .before .before .before .before .before .before .before .before .before .before .before .before .args .at) (c .before .before .before .before .before .before .before .before .before .before .before .before .before .before .args .left) (c .before .before .before .before .before .before .before .before .before .before .before .before .before .before .args .credit) (c .before .before .before .before .before .before .before .before .before .before .before .before .before .before .args .result) (c .before .before .before .before .before .before .before .before .before .before .before .before .before .before .args .slots) (c .before .before .before .before .before .before .before .before .before .before .before .before .before .before .good .1 .1 .1 .1 .1 .1 .1 .0 .1 .0 .1) (c .before .before .before .before .before .before .before .before .before .before .before .before .before .before .args .bound) o (c .before .before .before .before .before .before .before .before .before .before .before .before .before .before .args .seen) _ _ _ (c .before .seeing .ensures) (c .check-branches .ensures))
+
+check-branches-returns-4 : (t : ℕ) → check-branches-lts.Need-returns-4 (check-branches-calls t) (check-branches-at t) check-branches.Post
+check-branches-returns-4 t c = let o : Opened (c .before .before .before .before .before .before .before .before .before .before .before .before .args .file .now) (c .before .before .before .before .before .before .before .before .before .before .before .before .args .decl .now) (c .before .before .before .before .before .before .before .before .before .before .before .before .args .at) (c .before .before .before .before .before .before .before .before .before .before .before .before .args .left) (c .before .before .before .before .before .before .before .before .before .before .before .before .args .credit) (c .before .before .before .before .before .before .before .before .before .before .before .before .args .result) (c .before .before .before .before .before .before .before .before .before .before .before .before .args .slots) (c .before .before .before .before .before .before .before .before .before .before .before .before .good .1 .1 .1 .1 .1 .1 .1 .0 .1 .0 .1) (c .before .before .before .before .before .before .before .before .before .before .before .before .args .bound) (c .before .before .before .before .before .before .before .before .before .byte .result) (c .before .before .before .before .before .before .arity .result) (c .before .before .before .before .credits .result) (c .before .before .before .before .before .branch-slots .result) = record { con = c .before .before .before .before .before .before .before .before .before .byte .ensures .0; arity = c .before .before .before .before .before .before .arity .ensures .0; extra = c .before .before .before .before .credits .ensures; kept = c .before .before .before .before .before .branch-slots .ensures } in branch-stops (c .before .before .before .before .before .before .before .before .before .before .before .before .args .file .now) (c .before .before .before .before .before .before .before .before .before .before .before .before .args .decl .now) (c .before .before .before .before .before .before .before .before .before .before .before .before .args .at) (c .before .before .before .before .before .before .before .before .before .before .before .before .args .left) (c .before .before .before .before .before .before .before .before .before .before .before .before .args .credit) (c .before .before .before .before .before .before .before .before .before .before .before .before .args .result) (c .before .before .before .before .before .before .before .before .before .before .before .before .args .slots) (c .before .before .before .before .before .before .before .before .before .before .before .before .good .1 .1 .1 .1 .1 .1 .1 .0 .1 .0 .1) (c .before .before .before .before .before .before .before .before .before .before .before .before .args .bound) (c .before .before .before .before .before .before .before .before .before .before .if1 .left) (opened-judged (c .before .before .before .before .before .before .before .before .before .before .before .before .args .file .now) (c .before .before .before .before .before .before .before .before .before .before .before .before .args .decl .now) (c .before .before .before .before .before .before .before .before .before .before .before .before .args .at) (c .before .before .before .before .before .before .before .before .before .before .before .before .args .left) (c .before .before .before .before .before .before .before .before .before .before .before .before .args .credit) (c .before .before .before .before .before .before .before .before .before .before .before .before .args .result) (c .before .before .before .before .before .before .before .before .before .before .before .before .args .slots) (c .before .before .before .before .before .before .before .before .before .before .before .before .good .1 .1 .1 .1 .1 .1 .1 .0 .1 .0 .1) (c .before .before .before .before .before .before .before .before .before .before .before .before .args .bound) o (c .before .before .before .check-term .ensures)) _ (bit-is (c .before .before .before .before .before .before .before .before .before .before .before .before .args .file .now) (c .before .before .before .before .before .before .before .before .before .before .before .before .args .decl .now) (c .before .before .before .before .before .before .before .before .before .before .before .before .args .at) (c .before .before .before .before .before .before .before .before .before .before .before .before .args .left) (c .before .before .before .before .before .before .before .before .before .before .before .before .args .credit) (c .before .before .before .before .before .before .before .before .before .before .before .before .args .result) (c .before .before .before .before .before .before .before .before .before .before .before .before .args .slots) (c .before .before .before .before .before .before .before .before .before .before .before .before .good .1 .1 .1 .1 .1 .1 .1 .0 .1 .0 .1) (c .before .before .before .before .before .before .before .before .before .before .before .before .args .bound) (c .before .before .before .before .before .before .before .before .before .byte .result) (c .before .before .before .before .before .before .before .before .before .before .before .before .args .seen) _ false (c .before .before .before .before .before .before .before .before .before .byte .ensures .0) (c .before .before .before .before .before .before .before .before .sees .ensures) (c .before .before .before .before .before .before .before .if2 .left)) (c .before .number .given .1)
+
+check-term-mark-requires : (t : ℕ) → check-term-lts.Need-mark-requires (check-term-calls t) (check-term-at t) check-term.Post
+check-term-mark-requires t c κs = ready-low (c .before .pre .1) .1
+
+check-term-take-record-requires : (t : ℕ) → check-term-lts.Need-take-record-requires (check-term-calls t) (check-term-at t) check-term.Post
+check-term-take-record-requires t c κs = (c .before .before .pre .1 .few, ready-low (c .before .before .pre .1) .1, c .before .before .pre .1 .declared .wide)
+
+check-term-returns : (t : ℕ) → check-term-lts.Need-returns (check-term-calls t) (check-term-at t) check-term.Post
+check-term-returns t c = stops (c .before .before .before .before .before .args .file .now) (c .before .before .before .before .before .args .decl .now) (c .before .before .before .before .before .args .at) (c .before .before .before .before .before .args .result) (c .before .before .before .before .before .args .slots) (c .before .before .before .before .before .good .1 .1 .1 .1 .0 .1 .0 .1) (c .before .before .before .before .before .args .bound) (c .before .before .before .mark .ensures) (c .before .before .take-record .ensures) (c .if1 .taken)
+
+check-term-binds-requires : (t : ℕ) → check-term-lts.Need-binds-requires (check-term-calls t) (check-term-at t) check-term.Post
+check-term-binds-requires t c κs = search needs
+
+check-term-add-more : (t : ℕ) → check-term-lts.Need-add-more (check-term-calls t) (check-term-at t) check-term.Post
+check-term-add-more t c = omega (arith, c .before .before .before .before .before .before .pre .1 .few, c .binds .ensures .1)
+
+check-term-bound-kind-requires : (t : ℕ) → check-term-lts.Need-bound-kind-requires (check-term-calls t) (check-term-at t) check-term.Post
+check-term-bound-kind-requires t c κs = (ready-low (c .before .before .before .before .before .before .pre .1) .1, c .before .before .before .before .before .before .pre .1 .declared .wide)
+
+check-term-keep-requires : (t : ℕ) → check-term-lts.Need-keep-requires (check-term-calls t) (check-term-at t) check-term.Post
+check-term-keep-requires t c κs = (room (c .before .before .before .before .before .before .before .args .file .now) (c .before .before .before .before .before .before .before .args .decl .now) (c .before .before .before .before .before .before .before .args .at) (c .before .before .before .before .before .before .before .args .result) (c .before .before .before .before .before .before .before .args .slots) (c .before .before .before .before .before .before .before .good .1 .1 .1 .1 .0 .1 .0 .1) (c .before .before .before .before .before .before .before .args .bound) (c .before .before .before .before .before .before .before .pre .1) (c .before .before .before .before .before .mark .ensures) (ap (λ n. c .before .before .before .before .before .before .before .args .bound + n) (c .before .binds .ensures .0)), ready-low (c .before .before .before .before .before .before .before .pre .1) .1)
+
+check-term-follows-requires : (t : ℕ) → check-term-lts.Need-follows-requires (check-term-calls t) (check-term-at t) check-term.Post
+check-term-follows-requires t c κs = (ready-low (c .before .before .before .before .before .before .before .before .pre .1) .1, c .before .before .before .before .before .before .before .before .pre .1 .declared .wide)
+
+check-term-enum-known-then : (t : ℕ) → check-term-lts.Need-enum-known-then (check-term-calls t) (check-term-at t) check-term.Post
+check-term-enum-known-then t c = search needs
+
+check-term-enum-known-then-2 : (t : ℕ) → check-term-lts.Need-enum-known-then-2 (check-term-calls t) (check-term-at t) check-term.Post
+check-term-enum-known-then-2 t c = search needs
+
+check-term-check-term-requires : (t : ℕ) → check-term-lts.Need-check-term-requires (check-term-calls t) (check-term-at t) check-term.Post
+check-term-check-term-requires t c κs = let low = ready-low (c .before .before .before .before .before .before .before .before .before .before .before .before .pre .1) in (omega (arith, one-less (c .before .before .before .before .before .before .before .before .before .before .before .before .args .file .now) (c .before .before .before .before .before .before .before .before .before .before .before .before .args .decl .now) (c .before .before .before .before .before .before .before .before .before .before .before .before .args .at) (c .before .before .before .before .before .before .before .before .before .before .before .before .args .result) (c .before .before .before .before .before .before .before .before .before .before .before .before .args .slots) (c .before .before .before .before .before .before .before .before .before .before .before .before .good .1 .1 .1 .1 .0 .1 .0 .1) (c .before .before .before .before .before .before .before .before .before .before .before .before .args .bound) (made (c .before .before .before .before .before .before .before .before .before .before .before .before .args .file .now) (c .before .before .before .before .before .before .before .before .before .before .before .before .args .decl .now) (c .before .before .before .before .before .before .before .before .before .before .before .before .args .at) (c .before .before .before .before .before .before .before .before .before .before .before .before .args .result) (c .before .before .before .before .before .before .before .before .before .before .before .before .args .slots) (c .before .before .before .before .before .before .before .before .before .before .before .before .good .1 .1 .1 .1 .0 .1 .0 .1) (c .before .before .before .before .before .before .before .before .before .before .before .before .args .bound) _ _ _ _ _ _ (c .before .before .before .before .before .before .before .before .before .before .mark .ensures) (c .before .before .before .before .before .before .before .before .before .take-record .ensures) (c .before .before .before .before .before .before .before .if1 .left) (c .before .before .before .before .before .before .binds .ensures .0) (c .before .before .before .before .before .bound-kind .ensures) (c .before .before .before .before .keep .ensures) (c .before .before .before .follows .ensures)) (c .before .then2 .given .1) (c .before .before .before .before .before .before .before .before .before .before .before .before .pre .1)), one-ready (c .before .before .before .before .before .before .before .before .before .before .before .before .args .file .now) (c .before .before .before .before .before .before .before .before .before .before .before .before .args .decl .now) (c .before .before .before .before .before .before .before .before .before .before .before .before .args .at) (c .before .before .before .before .before .before .before .before .before .before .before .before .args .result) (c .before .before .before .before .before .before .before .before .before .before .before .before .args .slots) (c .before .before .before .before .before .before .before .before .before .before .before .before .good .1 .1 .1 .1 .0 .1 .0 .1) (c .before .before .before .before .before .before .before .before .before .before .before .before .args .bound) (made (c .before .before .before .before .before .before .before .before .before .before .before .before .args .file .now) (c .before .before .before .before .before .before .before .before .before .before .before .before .args .decl .now) (c .before .before .before .before .before .before .before .before .before .before .before .before .args .at) (c .before .before .before .before .before .before .before .before .before .before .before .before .args .result) (c .before .before .before .before .before .before .before .before .before .before .before .before .args .slots) (c .before .before .before .before .before .before .before .before .before .before .before .before .good .1 .1 .1 .1 .0 .1 .0 .1) (c .before .before .before .before .before .before .before .before .before .before .before .before .args .bound) _ _ _ _ _ _ (c .before .before .before .before .before .before .before .before .before .before .mark .ensures) (c .before .before .before .before .before .before .before .before .before .take-record .ensures) (c .before .before .before .before .before .before .before .if1 .left) (c .before .before .before .before .before .before .binds .ensures .0) (c .before .before .before .before .before .bound-kind .ensures) (c .before .before .before .before .keep .ensures) (c .before .before .before .follows .ensures)) (c .before .then2 .given .1) (c .before .before .before .before .before .before .before .before .before .before .before .before .pre .1))
+
+check-term-enum-known-then-3 : (t : ℕ) → check-term-lts.Need-enum-known-then-3 (check-term-calls t) (check-term-at t) check-term.Post
+check-term-enum-known-then-3 t c = search needs
+
+check-term-check-term-requires-2 : (t : ℕ) → check-term-lts.Need-check-term-requires-2 (check-term-calls t) (check-term-at t) check-term.Post
+check-term-check-term-requires-2 t c κs = let low = ready-low (c .before .before .before .before .before .before .before .before .before .before .before .before .pre .1) in (omega (arith, two-less (c .before .before .before .before .before .before .before .before .before .before .before .before .args .file .now) (c .before .before .before .before .before .before .before .before .before .before .before .before .args .decl .now) (c .before .before .before .before .before .before .before .before .before .before .before .before .args .at) (c .before .before .before .before .before .before .before .before .before .before .before .before .args .result) (c .before .before .before .before .before .before .before .before .before .before .before .before .args .slots) (c .before .before .before .before .before .before .before .before .before .before .before .before .good .1 .1 .1 .1 .0 .1 .0 .1) (c .before .before .before .before .before .before .before .before .before .before .before .before .args .bound) (made (c .before .before .before .before .before .before .before .before .before .before .before .before .args .file .now) (c .before .before .before .before .before .before .before .before .before .before .before .before .args .decl .now) (c .before .before .before .before .before .before .before .before .before .before .before .before .args .at) (c .before .before .before .before .before .before .before .before .before .before .before .before .args .result) (c .before .before .before .before .before .before .before .before .before .before .before .before .args .slots) (c .before .before .before .before .before .before .before .before .before .before .before .before .good .1 .1 .1 .1 .0 .1 .0 .1) (c .before .before .before .before .before .before .before .before .before .before .before .before .args .bound) _ _ _ _ _ _ (c .before .before .before .before .before .before .before .before .before .before .mark .ensures) (c .before .before .before .before .before .before .before .before .before .take-record .ensures) (c .before .before .before .before .before .before .before .if1 .left) (c .before .before .before .before .before .before .binds .ensures .0) (c .before .before .before .before .before .bound-kind .ensures) (c .before .before .before .before .keep .ensures) (c .before .before .before .follows .ensures)) (c .before .then3 .given .1) (c .before .before .before .before .before .before .before .before .before .before .before .before .pre .1)), two-ready (c .before .before .before .before .before .before .before .before .before .before .before .before .args .file .now) (c .before .before .before .before .before .before .before .before .before .before .before .before .args .decl .now) (c .before .before .before .before .before .before .before .before .before .before .before .before .args .at) (c .before .before .before .before .before .before .before .before .before .before .before .before .args .result) (c .before .before .before .before .before .before .before .before .before .before .before .before .args .slots) (c .before .before .before .before .before .before .before .before .before .before .before .before .good .1 .1 .1 .1 .0 .1 .0 .1) (c .before .before .before .before .before .before .before .before .before .before .before .before .args .bound) (made (c .before .before .before .before .before .before .before .before .before .before .before .before .args .file .now) (c .before .before .before .before .before .before .before .before .before .before .before .before .args .decl .now) (c .before .before .before .before .before .before .before .before .before .before .before .before .args .at) (c .before .before .before .before .before .before .before .before .before .before .before .before .args .result) (c .before .before .before .before .before .before .before .before .before .before .before .before .args .slots) (c .before .before .before .before .before .before .before .before .before .before .before .before .good .1 .1 .1 .1 .0 .1 .0 .1) (c .before .before .before .before .before .before .before .before .before .before .before .before .args .bound) _ _ _ _ _ _ (c .before .before .before .before .before .before .before .before .before .before .mark .ensures) (c .before .before .before .before .before .before .before .before .before .take-record .ensures) (c .before .before .before .before .before .before .before .if1 .left) (c .before .before .before .before .before .before .binds .ensures .0) (c .before .before .before .before .before .bound-kind .ensures) (c .before .before .before .before .keep .ensures) (c .before .before .before .follows .ensures)) (c .before .then3 .given .1) (c .before .before .before .before .before .before .before .before .before .before .before .before .pre .1))
+
+check-term-enum-known-second : (t : ℕ) → check-term-lts.Need-enum-known-second (check-term-calls t) (check-term-at t) check-term.Post
+check-term-enum-known-second t c = search needs
+
+check-term-check-term-requires-3 : (t : ℕ) → check-term-lts.Need-check-term-requires-3 (check-term-calls t) (check-term-at t) check-term.Post
+check-term-check-term-requires-3 t c κs = let low = ready-low (c .before .before .before .before .before .before .before .before .before .before .before .before .before .before .before .before .pre .1) in (omega (arith, second-less (c .before .before .before .before .before .before .before .before .before .before .before .before .before .before .before .before .args .file .now) (c .before .before .before .before .before .before .before .before .before .before .before .before .before .before .before .before .args .decl .now) (c .before .before .before .before .before .before .before .before .before .before .before .before .before .before .before .before .args .at) (c .before .before .before .before .before .before .before .before .before .before .before .before .before .before .before .before .args .result) (c .before .before .before .before .before .before .before .before .before .before .before .before .before .before .before .before .args .slots) (c .before .before .before .before .before .before .before .before .before .before .before .before .before .before .before .before .good .1 .1 .1 .1 .0 .1 .0 .1) (c .before .before .before .before .before .before .before .before .before .before .before .before .before .before .before .before .args .bound) (made (c .before .before .before .before .before .before .before .before .before .before .before .before .before .before .before .before .args .file .now) (c .before .before .before .before .before .before .before .before .before .before .before .before .before .before .before .before .args .decl .now) (c .before .before .before .before .before .before .before .before .before .before .before .before .before .before .before .before .args .at) (c .before .before .before .before .before .before .before .before .before .before .before .before .before .before .before .before .args .result) (c .before .before .before .before .before .before .before .before .before .before .before .before .before .before .before .before .args .slots) (c .before .before .before .before .before .before .before .before .before .before .before .before .before .before .before .before .good .1 .1 .1 .1 .0 .1 .0 .1) (c .before .before .before .before .before .before .before .before .before .before .before .before .before .before .before .before .args .bound) _ _ _ _ _ _ (c .before .before .before .before .before .before .before .before .before .before .before .before .before .before .mark .ensures) (c .before .before .before .before .before .before .before .before .before .before .before .before .before .take-record .ensures) (c .before .before .before .before .before .before .before .before .before .before .before .if1 .left) (c .before .before .before .before .before .before .before .before .before .before .binds .ensures .0) (c .before .before .before .before .before .before .before .before .before .bound-kind .ensures) (c .before .before .before .before .before .before .before .before .keep .ensures) (c .before .before .before .before .before .before .before .follows .ensures)) (c .before .before .before .before .before .then3 .given .1) (c .before .before .before .check-term2 .ensures) (c .before .second .given .1) (c .before .before .before .before .before .before .before .before .before .before .before .before .before .before .before .before .pre .1)), second-ready (c .before .before .before .before .before .before .before .before .before .before .before .before .before .before .before .before .args .file .now) (c .before .before .before .before .before .before .before .before .before .before .before .before .before .before .before .before .args .decl .now) (c .before .before .before .before .before .before .before .before .before .before .before .before .before .before .before .before .args .at) (c .before .before .before .before .before .before .before .before .before .before .before .before .before .before .before .before .args .result) (c .before .before .before .before .before .before .before .before .before .before .before .before .before .before .before .before .args .slots) (c .before .before .before .before .before .before .before .before .before .before .before .before .before .before .before .before .good .1 .1 .1 .1 .0 .1 .0 .1) (c .before .before .before .before .before .before .before .before .before .before .before .before .before .before .before .before .args .bound) (made (c .before .before .before .before .before .before .before .before .before .before .before .before .before .before .before .before .args .file .now) (c .before .before .before .before .before .before .before .before .before .before .before .before .before .before .before .before .args .decl .now) (c .before .before .before .before .before .before .before .before .before .before .before .before .before .before .before .before .args .at) (c .before .before .before .before .before .before .before .before .before .before .before .before .before .before .before .before .args .result) (c .before .before .before .before .before .before .before .before .before .before .before .before .before .before .before .before .args .slots) (c .before .before .before .before .before .before .before .before .before .before .before .before .before .before .before .before .good .1 .1 .1 .1 .0 .1 .0 .1) (c .before .before .before .before .before .before .before .before .before .before .before .before .before .before .before .before .args .bound) _ _ _ _ _ _ (c .before .before .before .before .before .before .before .before .before .before .before .before .before .before .mark .ensures) (c .before .before .before .before .before .before .before .before .before .before .before .before .before .take-record .ensures) (c .before .before .before .before .before .before .before .before .before .before .before .if1 .left) (c .before .before .before .before .before .before .before .before .before .before .binds .ensures .0) (c .before .before .before .before .before .before .before .before .before .bound-kind .ensures) (c .before .before .before .before .before .before .before .before .keep .ensures) (c .before .before .before .before .before .before .before .follows .ensures)) (c .before .before .before .before .before .then3 .given .1) (c .before .before .before .check-term2 .ensures) (c .before .second .given .1) (c .before .before .before .before .before .before .before .before .before .before .before .before .before .before .before .before .pre .1))
+
+check-term-enum-known-number : (t : ℕ) → check-term-lts.Need-enum-known-number (check-term-calls t) (check-term-at t) check-term.Post
+check-term-enum-known-number t c = search needs
+
+check-term-enum-known-then-4 : (t : ℕ) → check-term-lts.Need-enum-known-then-4 (check-term-calls t) (check-term-at t) check-term.Post
+check-term-enum-known-then-4 t c = search needs
+
+check-term-check-branches-requires : (t : ℕ) → check-term-lts.Need-check-branches-requires (check-term-calls t) (check-term-at t) check-term.Post
+check-term-check-branches-requires t c κs = let low = ready-low (c .before .before .before .before .before .before .before .before .before .before .before .before .pre .1) in (omega (arith, many-less (c .before .before .before .before .before .before .before .before .before .before .before .before .args .file .now) (c .before .before .before .before .before .before .before .before .before .before .before .before .args .decl .now) (c .before .before .before .before .before .before .before .before .before .before .before .before .args .at) (c .before .before .before .before .before .before .before .before .before .before .before .before .args .result) (c .before .before .before .before .before .before .before .before .before .before .before .before .args .slots) (c .before .before .before .before .before .before .before .before .before .before .before .before .good .1 .1 .1 .1 .0 .1 .0 .1) (c .before .before .before .before .before .before .before .before .before .before .before .before .args .bound) (made (c .before .before .before .before .before .before .before .before .before .before .before .before .args .file .now) (c .before .before .before .before .before .before .before .before .before .before .before .before .args .decl .now) (c .before .before .before .before .before .before .before .before .before .before .before .before .args .at) (c .before .before .before .before .before .before .before .before .before .before .before .before .args .result) (c .before .before .before .before .before .before .before .before .before .before .before .before .args .slots) (c .before .before .before .before .before .before .before .before .before .before .before .before .good .1 .1 .1 .1 .0 .1 .0 .1) (c .before .before .before .before .before .before .before .before .before .before .before .before .args .bound) _ _ _ _ _ _ (c .before .before .before .before .before .before .before .before .before .before .mark .ensures) (c .before .before .before .before .before .before .before .before .before .take-record .ensures) (c .before .before .before .before .before .before .before .if1 .left) (c .before .before .before .before .before .before .binds .ensures .0) (c .before .before .before .before .before .bound-kind .ensures) (c .before .before .before .before .keep .ensures) (c .before .before .before .follows .ensures)) (c .before .then4 .given .1) (c .before .before .before .before .before .before .before .before .before .before .before .before .pre .1)), many-ready (c .before .before .before .before .before .before .before .before .before .before .before .before .args .file .now) (c .before .before .before .before .before .before .before .before .before .before .before .before .args .decl .now) (c .before .before .before .before .before .before .before .before .before .before .before .before .args .at) (c .before .before .before .before .before .before .before .before .before .before .before .before .args .result) (c .before .before .before .before .before .before .before .before .before .before .before .before .args .slots) (c .before .before .before .before .before .before .before .before .before .before .before .before .good .1 .1 .1 .1 .0 .1 .0 .1) (c .before .before .before .before .before .before .before .before .before .before .before .before .args .bound) (made (c .before .before .before .before .before .before .before .before .before .before .before .before .args .file .now) (c .before .before .before .before .before .before .before .before .before .before .before .before .args .decl .now) (c .before .before .before .before .before .before .before .before .before .before .before .before .args .at) (c .before .before .before .before .before .before .before .before .before .before .before .before .args .result) (c .before .before .before .before .before .before .before .before .before .before .before .before .args .slots) (c .before .before .before .before .before .before .before .before .before .before .before .before .good .1 .1 .1 .1 .0 .1 .0 .1) (c .before .before .before .before .before .before .before .before .before .before .before .before .args .bound) _ _ _ _ _ _ (c .before .before .before .before .before .before .before .before .before .before .mark .ensures) (c .before .before .before .before .before .before .before .before .before .take-record .ensures) (c .before .before .before .before .before .before .before .if1 .left) (c .before .before .before .before .before .before .binds .ensures .0) (c .before .before .before .before .before .bound-kind .ensures) (c .before .before .before .before .keep .ensures) (c .before .before .before .follows .ensures)) (c .before .then4 .given .1) (c .before .before .before .before .before .before .before .before .before .before .before .before .pre .1))
+
+check-term-returns-2 : (t : ℕ) → check-term-lts.Need-returns-2 (check-term-calls t) (check-term-at t) check-term.Post
+check-term-returns-2 t c = leaf-judged (c .before .before .before .before .before .before .before .before .before .before .before .before .args .file .now) (c .before .before .before .before .before .before .before .before .before .before .before .before .args .decl .now) (c .before .before .before .before .before .before .before .before .before .before .before .before .args .at) (c .before .before .before .before .before .before .before .before .before .before .before .before .args .result) (c .before .before .before .before .before .before .before .before .before .before .before .before .args .slots) (c .before .before .before .before .before .before .before .before .before .before .before .before .good .1 .1 .1 .1 .0 .1 .0 .1) (c .before .before .before .before .before .before .before .before .before .before .before .before .args .bound) (made (c .before .before .before .before .before .before .before .before .before .before .before .before .args .file .now) (c .before .before .before .before .before .before .before .before .before .before .before .before .args .decl .now) (c .before .before .before .before .before .before .before .before .before .before .before .before .args .at) (c .before .before .before .before .before .before .before .before .before .before .before .before .args .result) (c .before .before .before .before .before .before .before .before .before .before .before .before .args .slots) (c .before .before .before .before .before .before .before .before .before .before .before .before .good .1 .1 .1 .1 .0 .1 .0 .1) (c .before .before .before .before .before .before .before .before .before .before .before .before .args .bound) _ _ _ _ _ _ (c .before .before .before .before .before .before .before .before .before .before .mark .ensures) (c .before .before .before .before .before .before .before .before .before .take-record .ensures) (c .before .before .before .before .before .before .before .if1 .left) (c .before .before .before .before .before .before .binds .ensures .0) (c .before .before .before .before .before .bound-kind .ensures) (c .before .before .before .before .keep .ensures) (c .before .before .before .follows .ensures)) (c .before .then .given .1)
+
+check-term-returns-3 : (t : ℕ) → check-term-lts.Need-returns-3 (check-term-calls t) (check-term-at t) check-term.Post
+check-term-returns-3 t c = one-judged (c .before .before .before .before .before .before .before .before .before .before .before .before .before .args .file .now) (c .before .before .before .before .before .before .before .before .before .before .before .before .before .args .decl .now) (c .before .before .before .before .before .before .before .before .before .before .before .before .before .args .at) (c .before .before .before .before .before .before .before .before .before .before .before .before .before .args .result) (c .before .before .before .before .before .before .before .before .before .before .before .before .before .args .slots) (c .before .before .before .before .before .before .before .before .before .before .before .before .before .good .1 .1 .1 .1 .0 .1 .0 .1) (c .before .before .before .before .before .before .before .before .before .before .before .before .before .args .bound) (made (c .before .before .before .before .before .before .before .before .before .before .before .before .before .args .file .now) (c .before .before .before .before .before .before .before .before .before .before .before .before .before .args .decl .now) (c .before .before .before .before .before .before .before .before .before .before .before .before .before .args .at) (c .before .before .before .before .before .before .before .before .before .before .before .before .before .args .result) (c .before .before .before .before .before .before .before .before .before .before .before .before .before .args .slots) (c .before .before .before .before .before .before .before .before .before .before .before .before .before .good .1 .1 .1 .1 .0 .1 .0 .1) (c .before .before .before .before .before .before .before .before .before .before .before .before .before .args .bound) _ _ _ _ _ _ (c .before .before .before .before .before .before .before .before .before .before .before .mark .ensures) (c .before .before .before .before .before .before .before .before .before .before .take-record .ensures) (c .before .before .before .before .before .before .before .before .if1 .left) (c .before .before .before .before .before .before .before .binds .ensures .0) (c .before .before .before .before .before .before .bound-kind .ensures) (c .before .before .before .before .before .keep .ensures) (c .before .before .before .before .follows .ensures)) (c .before .before .then2 .given .1) (c .check-term .ensures)
+
+check-term-returns-4 : (t : ℕ) → check-term-lts.Need-returns-4 (check-term-calls t) (check-term-at t) check-term.Post
+check-term-returns-4 t c = two-judged (c .before .before .before .before .before .before .before .before .before .before .before .before .before .before .before .before .before .args .file .now) (c .before .before .before .before .before .before .before .before .before .before .before .before .before .before .before .before .before .args .decl .now) (c .before .before .before .before .before .before .before .before .before .before .before .before .before .before .before .before .before .args .at) (c .before .before .before .before .before .before .before .before .before .before .before .before .before .before .before .before .before .args .result) (c .before .before .before .before .before .before .before .before .before .before .before .before .before .before .before .before .before .args .slots) (c .before .before .before .before .before .before .before .before .before .before .before .before .before .before .before .before .before .good .1 .1 .1 .1 .0 .1 .0 .1) (c .before .before .before .before .before .before .before .before .before .before .before .before .before .before .before .before .before .args .bound) (made (c .before .before .before .before .before .before .before .before .before .before .before .before .before .before .before .before .before .args .file .now) (c .before .before .before .before .before .before .before .before .before .before .before .before .before .before .before .before .before .args .decl .now) (c .before .before .before .before .before .before .before .before .before .before .before .before .before .before .before .before .before .args .at) (c .before .before .before .before .before .before .before .before .before .before .before .before .before .before .before .before .before .args .result) (c .before .before .before .before .before .before .before .before .before .before .before .before .before .before .before .before .before .args .slots) (c .before .before .before .before .before .before .before .before .before .before .before .before .before .before .before .before .before .good .1 .1 .1 .1 .0 .1 .0 .1) (c .before .before .before .before .before .before .before .before .before .before .before .before .before .before .before .before .before .args .bound) _ _ _ _ _ _ (c .before .before .before .before .before .before .before .before .before .before .before .before .before .before .before .mark .ensures) (c .before .before .before .before .before .before .before .before .before .before .before .before .before .before .take-record .ensures) (c .before .before .before .before .before .before .before .before .before .before .before .before .if1 .left) (c .before .before .before .before .before .before .before .before .before .before .before .binds .ensures .0) (c .before .before .before .before .before .before .before .before .before .before .bound-kind .ensures) (c .before .before .before .before .before .before .before .before .before .keep .ensures) (c .before .before .before .before .before .before .before .before .follows .ensures)) (c .before .before .before .before .before .before .then3 .given .1) (c .before .before .before .before .check-term2 .ensures) (c .before .before .second .given .1) (c .check-term3 .ensures)
+
+check-term-returns-5 : (t : ℕ) → check-term-lts.Need-returns-5 (check-term-calls t) (check-term-at t) check-term.Post
+check-term-returns-5 t c = two-stops (c .before .before .before .before .before .before .before .before .before .before .before .before .before .before .before .before .args .file .now) (c .before .before .before .before .before .before .before .before .before .before .before .before .before .before .before .before .args .decl .now) (c .before .before .before .before .before .before .before .before .before .before .before .before .before .before .before .before .args .at) (c .before .before .before .before .before .before .before .before .before .before .before .before .before .before .before .before .args .result) (c .before .before .before .before .before .before .before .before .before .before .before .before .before .before .before .before .args .slots) (c .before .before .before .before .before .before .before .before .before .before .before .before .before .before .before .before .good .1 .1 .1 .1 .0 .1 .0 .1) (c .before .before .before .before .before .before .before .before .before .before .before .before .before .before .before .before .args .bound) (made (c .before .before .before .before .before .before .before .before .before .before .before .before .before .before .before .before .args .file .now) (c .before .before .before .before .before .before .before .before .before .before .before .before .before .before .before .before .args .decl .now) (c .before .before .before .before .before .before .before .before .before .before .before .before .before .before .before .before .args .at) (c .before .before .before .before .before .before .before .before .before .before .before .before .before .before .before .before .args .result) (c .before .before .before .before .before .before .before .before .before .before .before .before .before .before .before .before .args .slots) (c .before .before .before .before .before .before .before .before .before .before .before .before .before .before .before .before .good .1 .1 .1 .1 .0 .1 .0 .1) (c .before .before .before .before .before .before .before .before .before .before .before .before .before .before .before .before .args .bound) _ _ _ _ _ _ (c .before .before .before .before .before .before .before .before .before .before .before .before .before .before .mark .ensures) (c .before .before .before .before .before .before .before .before .before .before .before .before .before .take-record .ensures) (c .before .before .before .before .before .before .before .before .before .before .before .if1 .left) (c .before .before .before .before .before .before .before .before .before .before .binds .ensures .0) (c .before .before .before .before .before .before .before .before .before .bound-kind .ensures) (c .before .before .before .before .before .before .before .before .keep .ensures) (c .before .before .before .before .before .before .before .follows .ensures)) (c .before .before .before .before .before .then3 .given .1) (c .before .before .before .check-term2 .ensures) (c .before .number .given .1)
+
+check-term-returns-6 : (t : ℕ) → check-term-lts.Need-returns-6 (check-term-calls t) (check-term-at t) check-term.Post
+check-term-returns-6 t c = many-judged (c .before .before .before .before .before .before .before .before .before .before .before .before .before .args .file .now) (c .before .before .before .before .before .before .before .before .before .before .before .before .before .args .decl .now) (c .before .before .before .before .before .before .before .before .before .before .before .before .before .args .at) (c .before .before .before .before .before .before .before .before .before .before .before .before .before .args .result) (c .before .before .before .before .before .before .before .before .before .before .before .before .before .args .slots) (c .before .before .before .before .before .before .before .before .before .before .before .before .before .good .1 .1 .1 .1 .0 .1 .0 .1) (c .before .before .before .before .before .before .before .before .before .before .before .before .before .args .bound) (made (c .before .before .before .before .before .before .before .before .before .before .before .before .before .args .file .now) (c .before .before .before .before .before .before .before .before .before .before .before .before .before .args .decl .now) (c .before .before .before .before .before .before .before .before .before .before .before .before .before .args .at) (c .before .before .before .before .before .before .before .before .before .before .before .before .before .args .result) (c .before .before .before .before .before .before .before .before .before .before .before .before .before .args .slots) (c .before .before .before .before .before .before .before .before .before .before .before .before .before .good .1 .1 .1 .1 .0 .1 .0 .1) (c .before .before .before .before .before .before .before .before .before .before .before .before .before .args .bound) _ _ _ _ _ _ (c .before .before .before .before .before .before .before .before .before .before .before .mark .ensures) (c .before .before .before .before .before .before .before .before .before .before .take-record .ensures) (c .before .before .before .before .before .before .before .before .if1 .left) (c .before .before .before .before .before .before .before .binds .ensures .0) (c .before .before .before .before .before .before .bound-kind .ensures) (c .before .before .before .before .before .keep .ensures) (c .before .before .before .before .follows .ensures)) (c .before .before .then4 .given .1) (c .check-branches .ensures)
+
+pub +check-branches+check-term-spec : {M : Type 1} → statement M
++check-branches+check-term-spec =
+    close μ-check-branches μ-check-term (λ t. check-branches-lts.spec (check-branches-calls t)
+    (check-branches-at t)
+    check-branches.Post
+    (check-branches-returns t)
+    (check-branches-add-byte t)
+    (check-branches-byte-requires t)
+    (check-branches-sees-requires t)
+    (check-branches-add-t20 t)
+    (check-branches-returns-2 t)
+    (check-branches-arity-requires t)
+    (check-branches-branch-slots-requires t)
+    (check-branches-add-more t)
+    (check-branches-credits-requires t)
+    (check-branches-add-more-2 t)
+    (check-branches-add-check-term t)
+    (check-branches-check-term-requires t)
+    (check-branches-enum-known-next t)
+    (check-branches-sub-check-branches t)
+    (check-branches-seeing-requires t)
+    (check-branches-check-branches-requires t)
+    (check-branches-enum-known-number t)
+    (check-branches-returns-3 t)
+    (check-branches-returns-4 t))
+    λ t. check-term-lts.spec (check-term-calls t)
+    (check-term-at t)
+    check-term.Post
+    (check-term-mark-requires t)
+    (check-term-take-record-requires t)
+    (check-term-returns t)
+    (check-term-binds-requires t)
+    (check-term-add-more t)
+    (check-term-bound-kind-requires t)
+    (check-term-keep-requires t)
+    (check-term-follows-requires t)
+    (check-term-enum-known-then t)
+    (check-term-enum-known-then-2 t)
+    (check-term-check-term-requires t)
+    (check-term-enum-known-then-3 t)
+    (check-term-check-term-requires-2 t)
+    (check-term-enum-known-second t)
+    (check-term-check-term-requires-3 t)
+    (check-term-enum-known-number t)
+    (check-term-enum-known-then-4 t)
+    (check-term-check-branches-requires t)
+    (check-term-returns-2 t)
+    (check-term-returns-3 t)
+    (check-term-returns-4 t)
+    (check-term-returns-5 t)
+    (check-term-returns-6 t)

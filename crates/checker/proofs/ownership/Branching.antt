@@ -1,0 +1,330 @@
+-- The slots that a branch and a body start from, and a branch list by the bytes, step by step. Assumes nothing.
+use Prim.Native.Nat.{ℕ, zero, suc, _+_, _-_, _*_, _^_, _≤_, _<_}
+use mathlib.Core.Path.{_≡_, refl, sym, ap, ap₂, _∙_, subst}
+use mathlib.Core.List.{List, [], _∷_, _++_, map, append-assoc, append-nil, map-append}
+use mathlib.Core.Bool.{Bool, true, false, not}
+use native.Mathlib.Omega.{arith}
+use native.Mathlib.Numerals.{add-one}
+use lib.ListN.{length, set, getD, replicate, length-map, length-set}
+use lib.Dec.{eqb}
+use lib.Bits.{bitOr}
+use borrow.Author.Tests.{ne-eqb}
+use Rattle.meaning.specs.declared.Kind.the-variants as kind
+use Rattle.meaning.specs.declared.Slot.{Slot}
+use Rattle.meaning.specs.Choice.{pick}
+use Rattle.meaning.specs.Syntax.{Sort, Mode, Term, Branches, Constructor, File}
+use Rattle.meaning.specs.Syntax as S
+use Rattle.meaning.specs.Plain.{place-of}
+use Rattle.meaning.specs.Outcome.{Outcome, ok, refuse, then, require}
+use Rattle.meaning.specs.Ownership.{check, check-branches}
+use Rattle.meaning.specs.Ownership as tree
+use Rattle.standing.specs.Bytes.{byteAt, arityIn, fieldsIn}
+use Rattle.standing.specs.Stands.{Stands, Each, count}
+use Rattle.standing.specs.Stands as stands
+use Rattle.standing.specs.Table.{Declared, Sorts, sort-byte, mode-byte}
+use Rattle.checker.specs.declared.ownership.Checked.{Checked}
+use Rattle.checker.specs.declared.ownership.Checked.the-variants.{Next, Fault}
+use Rattle.checker.specs.OwnershipBits.{bitsOf}
+use Rattle.checker.specs.Slots.{slotOf, slotsOf, bound-slot, kindAt}
+use Rattle.checker.specs.Ownership.{laidOf, creditsOf, branchOf}
+use Rattle.checker.specs.OwnershipReady.{spanned, Ready, Judged, extraBy, boundBy, ReadyAll, Seen, JudgedAll}
+use Rattle.checker.proofs.ownership.Sloting.{slots-more}
+use Rattle.checker.proofs.ownership.Taking.{Scaled, sorts-scaled}
+use Rattle.checker.proofs.ownership.Cycle.{stands-past, spanned-next, spanned-fault, seen-with}
+
+-- ---- slots bound one after the other
+
+kind-is : (m : Mode) (at : ℕ) → slotOf (bound-slot (kindAt (mode-byte m)) at) ≡ tree.fresh (tree.kind-of m)
+unfolding kindAt pick
+kind-is Mode.number at = refl
+kind-is Mode.lent at = refl
+kind-is Mode.owned at = refl
+
+pub laid-length : (bytes : List ℕ) (scale at n modes bound : ℕ) (xs : List Slot) → length (laidOf bytes scale at n modes bound xs) ≡ length xs
+unfolding laidOf
+laid-length bytes scale at zero modes bound xs = refl
+laid-length bytes scale at (suc n) modes bound xs = laid-length bytes scale at n (modes + 1) (bound + 1) (set xs bound (bound-slot (kindAt (byteAt bytes modes * scale)) at)) ∙ simp length-set
+
+pub laid-tells : (bytes : List ℕ) (scale at : ℕ) (ms : List Mode) (modes bound : ℕ) (xs : List Slot) → Scaled bytes scale modes ms → bound + length ms ≤ length xs
+    → slotsOf (bound + length ms) (laidOf bytes scale at (length ms) modes bound xs) ≡ tree.bind (slotsOf bound xs) (map tree.kind-of ms)
+unfolding laidOf
+laid-tells bytes scale at [] modes bound xs s h =
+    let e : bound + 0 ≡ bound = omega arith in
+    rw e (sym (append-nil (slotsOf bound xs)))
+laid-tells bytes scale at (m ∷ ms) modes bound xs s h =
+    let e : bound + suc (length ms) ≡ bound + 1 + length ms = omega arith in
+    let v = bound-slot (kindAt (byteAt bytes modes * scale)) at in
+    let l : bound + 1 + length ms ≤ length (set xs bound v) = simp length-set (omega arith) in
+    ap (λ n. slotsOf n (laidOf bytes scale at (length ms) (modes + 1) (bound + 1) (set xs bound v))) e
+    ∙ laid-tells bytes scale at ms (modes + 1) (bound + 1) (set xs bound v) (s .1) l
+    ∙ ap (λ z. z ++ map tree.fresh (map tree.kind-of ms)) (slots-more bound xs v (omega arith) ∙ ap (λ z. slotsOf bound xs ++ (z ∷ [])) (ap (λ n. slotOf (bound-slot (kindAt n) at)) (s .0) ∙ kind-is m at))
+    ∙ append-assoc (slotsOf bound xs) (tree.fresh (tree.kind-of m) ∷ []) (map tree.fresh (map tree.kind-of ms))
+
+-- ---- the slots of a branch
+
+mode-lent : Sort → Mode
+mode-lent Sort.number = Mode.number
+mode-lent Sort.tree = Mode.lent
+
+sorts-lent : (bytes : List ℕ) (p : ℕ) (ss : List Sort) → Sorts bytes p ss → Scaled bytes 1 p (map mode-lent ss)
+unfolding mode-lent
+sorts-lent bytes p [] h = tt
+sorts-lent bytes p (Sort.number ∷ ss) h = (omega (arith, h .0), sorts-lent bytes (p + 1) ss (h .2))
+sorts-lent bytes p (Sort.tree ∷ ss) h = (omega (arith, h .0), sorts-lent bytes (p + 1) ss (h .2))
+
+kinds-lent : (ss : List Sort) → map tree.kind-of (map mode-lent ss) ≡ map tree.kind-lent ss
+unfolding mode-lent
+kinds-lent [] = refl
+kinds-lent (Sort.number ∷ ss) = ap (λ l. tree.Kind.number ∷ l) (kinds-lent ss)
+kinds-lent (Sort.tree ∷ ss) = ap (λ l. tree.Kind.lent ∷ l) (kinds-lent ss)
+
+kinds-owned : (ss : List Sort) → map tree.kind-of (map tree.mode-owned ss) ≡ map tree.kind-owned ss
+kinds-owned [] = refl
+kinds-owned (Sort.number ∷ ss) = ap (λ l. tree.Kind.number ∷ l) (kinds-owned ss)
+kinds-owned (Sort.tree ∷ ss) = ap (λ l. tree.Kind.owned ∷ l) (kinds-owned ss)
+
+pub credits-are : (ss : List Sort) (credit : ℕ) → credit ≤ 1 → creditsOf (length ss) credit ≡ extraBy credit ss
+unfolding creditsOf pick
+credits-are [] zero h = refl
+credits-are [] (suc n) h = refl
+credits-are (x ∷ ss) zero h = go (eqb (suc (length ss)) 0)
+  where
+    go : (b : Bool) → _≡_ {A = ℕ} (pick b 0 0) 0
+    go true = refl
+    go false = refl
+credits-are (x ∷ ss) (suc n) h =
+    let e : eqb (suc (length ss)) 0 ≡ false = ne-eqb (suc (length ss)) 0 (λ z. omega arith) in
+    let k : suc n ≡ 1 = omega arith in
+    rw (e, k)
+
+module _ (bytes decl : List ℕ) (at : ℕ) (slots : List Slot) (wide : length slots ≡ 32) (bound : ℕ) where
+
+  branch-lent : (c : ℕ) (ss : List Sort) → arityIn decl c ≡ length ss → Sorts bytes (fieldsIn decl c) ss → bound + length ss ≤ 32
+      → slotsOf (bound + arityIn decl c + creditsOf (arityIn decl c) 0) (branchOf bytes decl c at 0 slots bound) ≡ tree.bind (slotsOf bound slots) (tree.bound-by-LK ss)
+  unfolding branchOf pick
+  branch-lent c ss a s h =
+      let z : creditsOf (length ss) 0 ≡ 0 = credits-are ss 0 (omega arith) in
+      let n : bound + length ss + 0 ≡ bound + length (map mode-lent ss) = omega (arith, length-map ss mode-lent) in
+      let l : bound + length (map mode-lent ss) ≤ length slots = omega (arith, length-map ss mode-lent) in
+      rw (a, z) (ap₂ (λ x y. slotsOf x (laidOf bytes 1 at y (fieldsIn decl c) bound slots)) n (sym (length-map ss mode-lent))
+      ∙ laid-tells bytes 1 at (map mode-lent ss) (fieldsIn decl c) bound slots (sorts-lent bytes (fieldsIn decl c) ss s) l
+      ∙ ap (tree.bind (slotsOf bound slots)) (kinds-lent ss))
+
+  owned-laid : (p : ℕ) (ss : List Sort) → Sorts bytes p ss → bound + length ss ≤ 32
+      → slotsOf (bound + length ss) (laidOf bytes 2 at (length ss) p bound slots) ≡ tree.bind (slotsOf bound slots) (map tree.kind-owned ss)
+  owned-laid p ss s h =
+      let l : bound + length (map tree.mode-owned ss) ≤ length slots = omega (arith, length-map ss tree.mode-owned) in
+      ap (λ x. slotsOf (bound + x) (laidOf bytes 2 at x p bound slots)) (sym (length-map ss tree.mode-owned))
+      ∙ laid-tells bytes 2 at (map tree.mode-owned ss) p bound slots (sorts-scaled bytes p ss s) l
+      ∙ ap (tree.bind (slotsOf bound slots)) (kinds-owned ss)
+
+  bind-append : (xs : tree.Slots) (ks ls : List tree.Kind) → tree.bind xs ks ++ map tree.fresh ls ≡ tree.bind xs (ks ++ ls)
+  bind-append xs ks ls = append-assoc xs (map tree.fresh ks) (map tree.fresh ls) ∙ ap (λ z. xs ++ z) (sym (map-append tree.fresh ks ls))
+
+  branch-owned : (c : ℕ) (ss : List Sort) → arityIn decl c ≡ length ss → Sorts bytes (fieldsIn decl c) ss → bound + (length ss + extraBy 1 ss) ≤ 32
+      → slotsOf (bound + arityIn decl c + creditsOf (arityIn decl c) 1) (branchOf bytes decl c at 1 slots bound) ≡ tree.bind (slotsOf bound slots) (tree.bound-by-OP ss)
+  unfolding branchOf pick
+  branch-owned c [] a s h =
+      let z : creditsOf 0 1 ≡ 0 = credits-are [] 1 (omega arith) in
+      let n : bound + 0 + 0 ≡ bound + 0 = omega arith in
+      rw (a, z) (ap (λ x. slotsOf x (laidOf bytes 2 at 0 (fieldsIn decl c) bound slots)) n ∙ owned-laid (fieldsIn decl c) [] s (omega arith))
+  branch-owned c (x ∷ ss) a s h =
+      let z : creditsOf (length (x ∷ ss)) 1 ≡ 1 = credits-are (x ∷ ss) 1 (omega arith) in
+      let out = laidOf bytes 2 at (length (x ∷ ss)) (fieldsIn decl c) bound slots in
+      let l : bound + length (x ∷ ss) < length out = omega (arith, laid-length bytes 2 at (length (x ∷ ss)) (fieldsIn decl c) bound slots) in
+      rw (a, z) (slots-more (bound + length (x ∷ ss)) out (bound-slot (kind.Credit (length (x ∷ ss))) at) l
+      ∙ ap (λ y. y ++ (tree.fresh (tree.Kind.credit (length (x ∷ ss))) ∷ [])) (owned-laid (fieldsIn decl c) (x ∷ ss) s (omega arith))
+      ∙ bind-append (slotsOf bound slots) (map tree.kind-owned (x ∷ ss)) (tree.credit-of (x ∷ ss)))
+
+  pub branch-tells : (c credit : ℕ) (ss : List Sort) → credit ≤ 1 → arityIn decl c ≡ length ss → Sorts bytes (fieldsIn decl c) ss → bound + (length ss + extraBy credit ss) ≤ 32
+      → slotsOf (bound + arityIn decl c + creditsOf (arityIn decl c) credit) (branchOf bytes decl c at credit slots bound) ≡ tree.bind (slotsOf bound slots) (boundBy credit ss)
+  branch-tells c zero ss f a s h = branch-lent c ss a s (omega arith)
+  branch-tells c (suc zero) ss f a s h = branch-owned c ss a s h
+  branch-tells c (suc (suc n)) ss f a s h = absurd (omega arith)
+
+-- ---- a branch of a list
+
+record View (file : File) (bytes : List ℕ) (slots : ℕ) (extra : Constructor → ℕ) (at : ℕ) (bs : Branches) (next : ℕ) : Type 0 where
+  con : ℕ
+  term : Term
+  rest : Branches
+  second : ℕ
+  is : bs ≡ S.BR at con term rest
+  within : at + 3 ≤ length bytes
+  byte : byteAt bytes (at + 2) ≡ con
+  low : con < length (file .constructors)
+  few : slots + (length (getD (file .constructors) con []) + extra (getD (file .constructors) con [])) ≤ 32
+  here : place-of term ≡ at + 3
+  stands : Stands file bytes (slots + (length (getD (file .constructors) con []) + extra (getD (file .constructors) con []))) term second
+  each : Each file bytes slots extra second rest next
+
+moved : {file : File} {bytes : List ℕ} {slots : ℕ} {extra : Constructor → ℕ} {at p : ℕ} {bs : Branches} {next : ℕ} → at ≡ p → View file bytes slots extra p bs next → View file bytes slots extra at bs next
+moved {file} {bytes} {slots} {extra} {at} {p} {bs} {next} e v = subst (λ q. View file bytes slots extra q bs next) (sym e) v
+
+view : {file : File} {bytes : List ℕ} {slots : ℕ} {extra : Constructor → ℕ} {at : ℕ} {bs : Branches} {next : ℕ} → Each file bytes slots extra at bs next → (count bs ≡ 0 → ⊥)
+    → View file bytes slots extra at bs next
+view (stands.end n) h = absurd (h refl)
+view (stands.BR {p} {c} {second} {next} {extra} {t} {bs} e m l ec lc f q s each) h = moved e (record {
+  con = c;
+  term = t;
+  rest = bs;
+  second = second;
+  is = refl;
+  within = l;
+  byte = ec;
+  low = lc;
+  few = f;
+  here = q;
+  stands = s;
+  each = each
+})
+
+no-branches : {file : File} {bytes : List ℕ} {slots : ℕ} {extra : Constructor → ℕ} {at : ℕ} {bs : Branches} {next : ℕ} → Each file bytes slots extra at bs next → count bs ≡ 0
+    → (bs ≡ S.end) × (next ≡ at)
+no-branches (stands.end n) h = (refl, n)
+no-branches (stands.BR e m l ec lc f q s each) h = absurd (omega arith)
+
+module _ (bytes decl : List ℕ) (at left credit result : ℕ) (slots : List Slot) (wide : length slots ≡ 32) (bound : ℕ) where
+
+  pub end-judged : (seen : ℕ) → left ≡ 0 → JudgedAll bytes decl at left credit seen result slots bound (Next at)
+  unfolding spanned check-branches
+  end-judged seen z = record { judged = λ g list s.
+    let n = no-branches (g .each) (g .many ∙ z) in
+    ap Next (sym (n .1)) ∙ sym (ap (λ bs. spanned (g .next) (check-branches (g .file .constructors) (g .file .functions) (g .sort) bs (boundBy credit) list (slotsOf bound slots))) (n .0)) }
+
+  abbrev constructor : ℕ
+  constructor = byteAt bytes (at + 2)
+
+  abbrev more : ℕ
+  more = bound + arityIn decl constructor + creditsOf (arityIn decl constructor) credit
+
+  abbrev inner : List Slot
+  inner = branchOf bytes decl constructor at credit slots bound
+
+  module _ (some : left ≡ 0 → ⊥) where
+
+    viewed : (g : ReadyAll bytes decl at left credit result bound) → View (g .file) bytes bound (extraBy credit) at (g .branches) (g .next)
+    viewed g = view (g .each) (λ z. some (sym (g .many) ∙ z))
+
+    arity-is : (g : ReadyAll bytes decl at left credit result bound) → arityIn decl constructor ≡ length (getD (g .file .constructors) (viewed g .con) [])
+    arity-is g = ap (arityIn decl) (viewed g .byte) ∙ g .declared .arities (viewed g .con) (viewed g .low)
+
+    more-is : (g : ReadyAll bytes decl at left credit result bound)
+        → bound + (length (getD (g .file .constructors) (viewed g .con) []) + extraBy credit (getD (g .file .constructors) (viewed g .con) [])) ≡ more
+    more-is g =
+        let e = arity-is g in
+        let x : creditsOf (arityIn decl constructor) credit ≡ extraBy credit (getD (g .file .constructors) (viewed g .con) []) =
+            ap (λ k. creditsOf k credit) e ∙ credits-are (getD (g .file .constructors) (viewed g .con) []) credit (g .flag) in
+        omega arith
+
+    pub branch-low : ReadyAll bytes decl at left credit result bound → (at + 3 ≤ length bytes) × (at ≤ 4096) × (constructor < 64) × (more ≤ 32) × (credit ≤ 1)
+    branch-low g =
+        let v = viewed g in
+        let s = g .declared .size in
+        let n = g .declared .constructors in
+        (v .within, omega (arith, v .within), omega (arith, v .low, v .byte), omega (arith, v .few, more-is g), g .flag)
+
+    pub branch-ready : ReadyAll bytes decl at left credit result bound → Ready bytes decl (at + 3) result more
+    branch-ready g = record {
+      file = g .file;
+      declared = g .declared;
+      sort = g .sort;
+      wanted = g .wanted;
+      term = viewed g .term;
+      next = viewed g .second;
+      here = viewed g .here;
+      stands = subst (λ n. Stands (g .file) bytes n (viewed g .term) (viewed g .second)) (more-is g) (viewed g .stands);
+      few = branch-low g .3
+    }
+
+    -- the branch's own check, and then the rest's
+    branch-check : (g : ReadyAll bytes decl at left credit result bound) (list : List ℕ)
+        → check-branches (g .file .constructors) (g .file .functions) (g .sort) (g .branches) (boundBy credit) list (slotsOf bound slots)
+          ≡ then (require 12 (at + 2) (not (tree.member constructor list)))
+            (λ _. then (check (g .file .constructors) (g .file .functions) (g .sort) (viewed g .term) (slotsOf more inner))
+            (λ _. check-branches (g .file .constructors) (g .file .functions) (g .sort) (viewed g .rest) (boundBy credit) (constructor ∷ list) (slotsOf bound slots)))
+    unfolding check-branches
+    branch-check g list =
+        let v = viewed g in
+        let sorts = getD (g .file .constructors) (v .con) [] in
+        let tells : slotsOf more inner ≡ tree.bind (slotsOf bound slots) (boundBy credit sorts) =
+            branch-tells bytes decl at slots wide bound constructor credit sorts (g .flag) (arity-is g)
+            (subst (λ c. Sorts bytes (fieldsIn decl c) sorts) (sym (v .byte)) (g .declared .sorts (v .con) (v .low))) (v .few) in
+        ap (λ bs. check-branches (g .file .constructors) (g .file .functions) (g .sort) bs (boundBy credit) list (slotsOf bound slots)) (v .is)
+        ∙ rw (tells, v .byte)
+
+    pub branch-twice : (seen : ℕ) → getD (bitsOf 64 seen) constructor false ≡ true → JudgedAll bytes decl at left credit seen result slots bound (Fault 12 (at + 2))
+    unfolding spanned
+    branch-twice seen b = record { judged = λ g list s.
+      let m : tree.member constructor list ≡ true = s constructor (branch-low g .2) ∙ b in
+      sym (ap (spanned (g .next)) (branch-check g list) ∙ rw m) }
+
+    module _ {r : Checked} (j : Judged bytes decl (at + 3) result inner more r) where
+
+      pub branch-stops : (seen : ℕ) → getD (bitsOf 64 seen) constructor false ≡ false → {a b : ℕ} → r ≡ Fault a b → JudgedAll bytes decl at left credit seen result slots bound (Fault a b)
+      unfolding spanned branch-ready
+      branch-stops seen z {a} {b} e = record { judged = λ g list s.
+        let m : tree.member constructor list ≡ false = s constructor (branch-low g .2) ∙ z in
+        let x = spanned-fault (viewed g .second) a b (check (g .file .constructors) (g .file .functions) (g .sort) (viewed g .term) (slotsOf more inner)) (sym e ∙ j .judged (branch-ready g)) in
+        sym (ap (spanned (g .next)) (branch-check g list) ∙ rw (m, x)) }
+
+      fine-told : {n : ℕ} → r ≡ Next n → (g : ReadyAll bytes decl at left credit result bound)
+          → (check (g .file .constructors) (g .file .functions) (g .sort) (viewed g .term) (slotsOf more inner) ≡ ok tt) × (n ≡ viewed g .second)
+      unfolding branch-ready
+      fine-told {n} e g = spanned-next (viewed g .second) n (check (g .file .constructors) (g .file .functions) (g .sort) (viewed g .term) (slotsOf more inner)) (sym e ∙ j .judged (branch-ready g))
+
+      count-rest : (g : ReadyAll bytes decl at left credit result bound) → count (viewed g .rest) ≡ left - 1
+      count-rest g = let e = sym (g .many) ∙ ap count (viewed g .is) in omega arith
+
+      pub rest-ready : {n : ℕ} → r ≡ Next n → ReadyAll bytes decl at left credit result bound → ReadyAll bytes decl n (left - 1) credit result bound
+      rest-ready {n} e g = record {
+        file = g .file;
+        declared = g .declared;
+        sort = g .sort;
+        wanted = g .wanted;
+        branches = viewed g .rest;
+        next = g .next;
+        many = count-rest g;
+        each = subst (λ p. Each (g .file) bytes bound (extraBy credit) p (viewed g .rest) (g .next)) (sym (fine-told e g .1)) (viewed g .each);
+        few = g .few;
+        flag = g .flag
+      }
+
+      pub rest-less : {n : ℕ} → r ≡ Next n → ReadyAll bytes decl at left credit result bound → at < n
+      rest-less {n} e g =
+          let s = stands-past (viewed g .stands) in
+          omega (arith, s .0, viewed g .here, fine-told e g .1)
+
+      pub branch-judged : (seen : ℕ) → getD (bitsOf 64 seen) constructor false ≡ false → {n : ℕ} {s : Checked} → r ≡ Next n
+          → JudgedAll bytes decl n (left - 1) credit (bitOr seen (2 ^ constructor)) result slots bound s → JudgedAll bytes decl at left credit seen result slots bound s
+      unfolding rest-ready
+      branch-judged seen z {n} {s} e i = record { judged = λ g list l.
+        let m : tree.member constructor list ≡ false = l constructor (branch-low g .2) ∙ z in
+        i .judged (rest-ready e g) (constructor ∷ list) (seen-with list seen constructor (branch-low g .2) l)
+        ∙ sym (ap (spanned (g .next)) (branch-check g list) ∙ rw (m, fine-told e g .0)) }
+
+  -- ---- the same with what the code has made of the branch
+  pub record Opened (c k x : ℕ) (slots′ : List Slot) : Type 0 where
+    pub con : c ≡ constructor
+    pub arity : k ≡ arityIn decl c
+    pub extra : x ≡ creditsOf k credit
+    pub kept : slots′ ≡ branchOf bytes decl c at credit slots bound
+
+  pub bit-is : (c seen : ℕ) (b v : Bool) → c ≡ constructor → b ≡ getD (bitsOf 64 seen) c false → b ≡ v → getD (bitsOf 64 seen) constructor false ≡ v
+  bit-is c seen b v ec eb ev = ap (λ z. getD (bitsOf 64 seen) z false) (sym ec) ∙ sym eb ∙ ev
+
+  module _ {c k x : ℕ} {slots′ : List Slot} (o : Opened c k x slots′) where
+    pub more-eq : bound + k + x ≡ more
+    more-eq = rw (o .extra, o .arity, o .con)
+
+    pub opened-ready : (left ≡ 0 → ⊥) → ReadyAll bytes decl at left credit result bound → Ready bytes decl (at + 3) result (bound + k + x)
+    opened-ready some g = subst (λ n. Ready bytes decl (at + 3) result n) (sym more-eq) (branch-ready some g)
+
+    pub opened-judged : {r : Checked} → Judged bytes decl (at + 3) result slots′ (bound + k + x) r → Judged bytes decl (at + 3) result inner more r
+    opened-judged {r} j =
+        subst (λ n. Judged bytes decl (at + 3) result inner n r) more-eq
+        (subst (λ z. Judged bytes decl (at + 3) result z (bound + k + x) r) (o .kept ∙ ap (λ z. branchOf bytes decl z at credit slots bound) (o .con)) j)
+
+    pub rest-judged : (seen seen′ n : ℕ) (s : Checked) → seen′ ≡ bitOr seen (2 ^ c) → JudgedAll bytes decl n (left - 1) credit seen′ result slots bound s
+        → JudgedAll bytes decl n (left - 1) credit (bitOr seen (2 ^ constructor)) result slots bound s
+    rest-judged seen seen′ n s e j = subst (λ z. JudgedAll bytes decl n (left - 1) credit z result slots bound s) (e ∙ ap (λ z. bitOr seen (2 ^ z)) (o .con)) j

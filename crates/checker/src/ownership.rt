@@ -1,0 +1,550 @@
+// The ownership check: answers 7 to 12, on a file that was read. It goes down a term by calling itself on what follows.
+use meaning::Kind;
+use meaning::Slot;
+use meaning::{find_mark, mark_row, AR, CL, GV, IF, LK, MK, NU, OP, TL};
+use crate::slots::Want;
+use crate::slots::{current, fresh_slots, has, keep, kind_of, left_over, spends, test, want_back, want_of, with};
+ghost use mathlib.Core.Path.{_≡_};
+ghost use mathlib.Core.Bool.{Bool, true, false};
+ghost use Prim.Native.Nat.{_+_, _*_, _^_, _<_, _≤_};
+ghost use lib.ListN.{length, set, getD};
+ghost use lib.Bits.{bitOr};
+ghost use Rattle.meaning.specs.Choice.{pick};
+ghost use Rattle.meaning.specs.Marks.{findMark, rowAt};
+ghost use Rattle.standing.specs.Bytes.{byteAt, markAt, arityIn, fieldsIn, paramsIn, modesIn, bodyIn};
+ghost use Rattle.checker.specs.OwnershipBits.{bitsOf};
+ghost use Rattle.checker.specs.Ownership.{fine, fault, resultIn, takeKind, takeOf, barsOf, listOf, closeOf, makeOf, callOf, giveOf, tailOf, pairOf, takenOf, kindBy, namedBy, thenOf, laidOf, creditsOf, branchOf};
+ghost use Rattle.checker.specs.OwnershipReady.{Ready, Judged, ReadyAll, JudgedAll, ReadyBody, JudgedBody, ReadyFile, JudgedFile};
+
+// What a record takes: the slots that it spends, as bits; or, where the number is not 0, a fault and its place.
+pub struct Taken {
+    pub number: u32,
+    pub place: usize,
+    pub spent: u32,
+}
+
+// What follows a node, and where; of branches also how many, and whether each binds a credit.
+pub enum Then {
+    Leaf(usize),
+    One(usize),
+    Two(usize),
+    Many(usize, usize, usize),
+}
+
+// Where a term that was checked ends, or the refusal's number and place.
+pub enum Checked {
+    Next(usize),
+    Fault(u32, usize),
+}
+
+fn fine(spent: u32) -> Taken
+    ensures { λ r. ⌜ r ≡ fine spent ⌝ }
+{
+    Taken {
+        number: 0,
+        place: 0,
+        spent,
+    }
+}
+
+fn fault(number: u32, place: usize) -> Taken
+    ensures { λ r. ⌜ r ≡ fault number place ⌝ }
+{
+    Taken {
+        number,
+        place,
+        spent: 0,
+    }
+}
+
+fn wide(b: u8) -> usize
+    ensures { λ r. ⌜ (r ≡ b) × (r < 256) ⌝ }
+{
+    b as usize
+}
+
+fn wide_word(w: u32) -> usize
+    ensures { λ r. ⌜ (r ≡ w) × (r < 4294967296) ⌝ }
+{
+    w as usize
+}
+
+// The byte at a place, 0 past the end.
+fn byte(file: &[u8], at: usize) -> usize
+    ensures { λ r. ⌜ (r ≡ byteAt (now (file .entry)) at) × (r < 256) ⌝ }
+{
+    if at < file.len() {
+        return wide(file[at]);
+    }
+    0
+}
+
+// A word of the table of declarations, 0 past the end.
+fn word(decl: &[u32; 128], i: usize) -> usize
+    requires { ⌜ length (now decl) ≡ 128 ⌝ }
+    ensures { λ r. ⌜ (r ≡ getD (now (decl .entry)) i 0) × (r < 4294967296) ⌝ }
+{
+    if i < 128 {
+        return wide_word(decl[i]);
+    }
+    0
+}
+
+// The place in the table of marks of the mark at a place.
+fn mark(file: &[u8], at: usize) -> usize
+    requires { ⌜ at ≤ 4096 ⌝ }
+    ensures { λ r. ⌜ r ≡ findMark (markAt (now (file .entry)) at) ⌝ }
+{
+    find_mark((byte(file, at) * 256 + byte(file, at + 1)) as u16)
+}
+
+// A constructor's arity, and the place of its first field's sort.
+fn arity(decl: &[u32; 128], c: usize) -> usize
+    requires { ⌜ length (now decl) ≡ 128 ⌝ }
+    ensures { λ r. ⌜ (r ≡ arityIn (now (decl .entry)) c) × (r < 256) ⌝ }
+{
+    word(decl, c) % 256
+}
+
+fn sorts(decl: &[u32; 128], c: usize) -> usize
+    requires { ⌜ length (now decl) ≡ 128 ⌝ }
+    ensures { λ r. ⌜ (r ≡ fieldsIn (now (decl .entry)) c) × (r < 16777216) ⌝ }
+{
+    word(decl, c) / 256
+}
+
+// A function's count of parameters, and the place of its first parameter's mode.
+fn params(decl: &[u32; 128], f: usize) -> usize
+    requires { ⌜ (f < 256) × (length (now decl) ≡ 128) ⌝ }
+    ensures { λ r. ⌜ (r ≡ paramsIn (now (decl .entry)) f) × (r < 256) ⌝ }
+{
+    word(decl, 64 + f) % 256
+}
+
+fn modes(decl: &[u32; 128], f: usize) -> usize
+    requires { ⌜ (f < 256) × (length (now decl) ≡ 128) ⌝ }
+    ensures { λ r. ⌜ (r ≡ modesIn (now (decl .entry)) f) × (r < 16777216) ⌝ }
+{
+    word(decl, 64 + f) / 256
+}
+
+// The sort of a function's result: 0 number, 1 tree.
+fn result_of(file: &[u8], decl: &[u32; 128], f: usize) -> usize
+    requires { ⌜ (f < 256) × (length (now decl) ≡ 128) ⌝ }
+    ensures { λ r. ⌜ (r ≡ resultIn (now (file .entry)) (now (decl .entry)) f) × (r < 256) ⌝ }
+{
+    byte(file, modes(decl, f) + params(decl, f))
+}
+
+// One slot of a kind, named at a place, on the way through a record.
+fn take_kind(kind: Kind, i: usize, place: usize, want: Want, barred: bool, spent: u32) -> Taken
+    requires { ⌜ i < 32 ⌝ }
+    ensures { λ r. ⌜ r ≡ takeKind kind i place want barred spent ⌝ }
+{
+    let now = current(kind, has(spent, i));
+    let number = test(now, want, barred);
+    if number != 0 {
+        return fault(number, place);
+    }
+    if spends(want) {
+        return fine(with(spent, i));
+    }
+    fine(spent)
+}
+
+// The slot that is named at a place.
+fn take(file: &[u8], at: usize, want: Want, slots: [Slot; 32], bound: usize) -> Taken
+    requires { ⌜ bound ≤ 32 ⌝ }
+    ensures { λ r. ⌜ r ≡ takeOf slots bound (byteAt (now (file .entry)) at) at want false 0 ⌝ }
+{
+    let i = byte(file, at);
+    if bound <= i {
+        return fault(7, at);
+    }
+    let slot = slots[i];
+    let kind = slot.kind;
+    take_kind(kind, i, at, want, false, 0)
+}
+
+// AR: two numbers.
+fn take_pair(file: &[u8], at: usize, slots: [Slot; 32], bound: usize) -> Taken
+    requires { ⌜ (bound ≤ 32) × (at ≤ 4096) ⌝ }
+    ensures { λ r. ⌜ r ≡ pairOf (now (file .entry)) at slots bound ⌝ }
+{
+    let t = take(file, at + 3, Want::Number, slots, bound);
+    if t.number != 0 {
+        return t;
+    }
+    take(file, at + 4, Want::Number, slots, bound)
+}
+
+// Does the slot count as used because it stands earlier in the list?
+fn bars(want: Want, earlier: u32, i: usize) -> bool
+    requires { ⌜ i < 32 ⌝ }
+    ensures { λ r. ⌜ r ≡ barsOf want earlier i ⌝ }
+{
+    if spends(want) {
+        return has(earlier, i);
+    }
+    false
+}
+
+// A list of slots, for modes whose bytes stand from a place on (sorts are scaled by 2: a tree is owned); `set` is spent before it.
+fn take_list(
+    file: &[u8],
+    modes: usize,
+    scale: usize,
+    count: usize,
+    at: usize,
+    set: u32,
+    slots: [Slot; 32],
+    bound: usize,
+) -> Taken
+    requires { ⌜ (bound ≤ 32) × (at ≤ 4100) × (modes < 16777216) × (scale ≤ 2) × (count < 256) ⌝ }
+    ensures { λ r. ⌜ r ≡ listOf (now (file .entry)) slots bound scale count modes at 0 set ⌝ }
+{
+    let mut j: usize = 0;
+    let mut earlier: u32 = 0;
+    let mut spent = set;
+    while j < count {
+        let i = byte(file, at + j);
+        if bound <= i {
+            return fault(7, at + j);
+        }
+        let want = want_of(byte(file, modes + j) * scale);
+        let slot = slots[i];
+        let kind = slot.kind;
+        let t = take_kind(kind, i, at + j, want, bars(want, earlier, i), spent);
+        if t.number != 0 {
+            return t;
+        }
+        earlier = with(earlier, i);
+        spent = t.spent;
+        j += 1;
+    }
+    fine(spent)
+}
+
+// MK: the credit, then the fields.
+fn take_make(file: &[u8], decl: &[u32; 128], at: usize, slots: [Slot; 32], bound: usize) -> Taken
+    requires { ⌜ (bound ≤ 32) × (at ≤ 4096) × (length (now decl) ≡ 128) ⌝ }
+    ensures { λ r. ⌜ r ≡ makeOf (now (file .entry)) (now (decl .entry)) at slots bound ⌝ }
+{
+    let c = byte(file, at + 2);
+    let k = arity(decl, c);
+    let t = take(file, at + 3, Want::Credit(k as u8), slots, bound);
+    if t.number != 0 {
+        return t;
+    }
+    take_list(file, sorts(decl, c), 2, k, at + 4, t.spent, slots, bound)
+}
+
+// CL: the arguments.
+fn take_call(file: &[u8], decl: &[u32; 128], at: usize, slots: [Slot; 32], bound: usize) -> Taken
+    requires { ⌜ (bound ≤ 32) × (at ≤ 4096) × (length (now decl) ≡ 128) ⌝ }
+    ensures { λ r. ⌜ r ≡ callOf (now (file .entry)) (now (decl .entry)) at slots bound ⌝ }
+{
+    let f = byte(file, at + 2);
+    take_list(file, modes(decl, f), 1, params(decl, f), at + 3, 0, slots, bound)
+}
+
+// A leaf's record: nothing is left over once it has taken what it takes.
+fn close(t: Taken, at: usize, slots: [Slot; 32], bound: usize) -> Taken
+    requires { ⌜ bound ≤ 32 ⌝ }
+    ensures { λ r. ⌜ r ≡ closeOf t at slots bound ⌝ }
+{
+    if t.number != 0 {
+        return t;
+    }
+    if left_over(slots, bound, t.spent) {
+        return fault(11, at);
+    }
+    fine(0)
+}
+
+// GV: the value.
+fn take_give(file: &[u8], at: usize, result: usize, slots: [Slot; 32], bound: usize) -> Taken
+    requires { ⌜ (bound ≤ 32) × (at ≤ 4096) ⌝ }
+    ensures { λ r. ⌜ r ≡ giveOf (now (file .entry)) at slots bound result ⌝ }
+{
+    let t = take(file, at + 2, want_back(result), slots, bound);
+    close(t, at, slots, bound)
+}
+
+// TL: the result's sort, then the arguments.
+fn take_tail(
+    file: &[u8],
+    decl: &[u32; 128],
+    at: usize,
+    result: usize,
+    slots: [Slot; 32],
+    bound: usize,
+) -> Taken
+    requires { ⌜ (bound ≤ 32) × (at ≤ 4096) × (length (now decl) ≡ 128) ⌝ }
+    ensures { λ r. ⌜ r ≡ tailOf (now (file .entry)) (now (decl .entry)) at slots bound result ⌝ }
+{
+    if result_of(file, decl, byte(file, at + 2)) != result {
+        return fault(8, at + 2);
+    }
+    let t = take_call(file, decl, at, slots, bound);
+    close(t, at, slots, bound)
+}
+
+// What a node's record takes.
+fn take_record(
+    file: &[u8],
+    decl: &[u32; 128],
+    at: usize,
+    m: usize,
+    result: usize,
+    slots: [Slot; 32],
+    bound: usize,
+) -> Taken
+    requires { ⌜ (bound ≤ 32) × (at ≤ 4096) × (length (now decl) ≡ 128) ⌝ }
+    ensures { λ r. ⌜ r ≡ takenOf (now (file .entry)) (now (decl .entry)) at slots bound m result ⌝ }
+{
+    match m {
+        GV => take_give(file, at, result, slots, bound),
+        MK => take_make(file, decl, at, slots, bound),
+        CL => take_call(file, decl, at, slots, bound),
+        TL => take_tail(file, decl, at, result, slots, bound),
+        OP => take(file, at + 2, Want::Owned, slots, bound),
+        LK => take(file, at + 2, Want::Looked, slots, bound),
+        AR => take_pair(file, at, slots, bound),
+        IF => take(file, at + 2, Want::Number, slots, bound),
+        _ => fine(0),
+    }
+}
+
+// The kind of slot that a node binds, if it binds one.
+fn bound_kind(file: &[u8], decl: &[u32; 128], at: usize, m: usize) -> Kind
+    requires { ⌜ (at ≤ 4096) × (length (now decl) ≡ 128) ⌝ }
+    ensures { λ r. ⌜ r ≡ kindBy (now (file .entry)) (now (decl .entry)) at m ⌝ }
+{
+    match m {
+        CL => kind_of(result_of(file, decl, byte(file, at + 2)) * 2),
+        NU => Kind::Number,
+        AR => Kind::Number,
+        _ => Kind::Owned,
+    }
+}
+
+// How many slots a node's record names behind its fixed fields.
+fn named(file: &[u8], decl: &[u32; 128], at: usize, m: usize) -> usize
+    requires { ⌜ (at ≤ 4096) × (length (now decl) ≡ 128) ⌝ }
+    ensures { λ r. ⌜ (r ≡ namedBy (now (file .entry)) (now (decl .entry)) at m) × (r < 256) ⌝ }
+{
+    match m {
+        MK => arity(decl, byte(file, at + 2)),
+        CL => params(decl, byte(file, at + 2)),
+        TL => params(decl, byte(file, at + 2)),
+        _ => 0,
+    }
+}
+
+// What follows a node's record.
+fn follows(file: &[u8], decl: &[u32; 128], at: usize, m: usize) -> Then
+    requires { ⌜ (at ≤ 4096) × (length (now decl) ≡ 128) ⌝ }
+    ensures { λ r. ⌜ r ≡ thenOf (now (file .entry)) (now (decl .entry)) at m ⌝ }
+{
+    let row = mark_row(m);
+    let next = at + 2 + wide(row.fields) + named(file, decl, at, m);
+    match m {
+        GV => Then::Leaf(next),
+        TL => Then::Leaf(next),
+        OP => Then::Many(next, byte(file, at + 3), 1),
+        LK => Then::Many(next, byte(file, at + 3), 0),
+        IF => Then::Two(next),
+        _ => Then::One(next),
+    }
+}
+
+// How many slots a node binds, by the table of marks.
+fn binds(m: usize) -> usize
+    ensures { λ r. ⌜ (r ≡ rowAt m .binds) × (r < 256) ⌝ }
+{
+    let row = mark_row(m);
+    wide(row.binds)
+}
+
+// Slots bound one after the other, for modes whose bytes stand from a place on (sorts of owned trees are scaled by 2).
+fn bind_all(
+    file: &[u8],
+    modes: usize,
+    scale: usize,
+    count: usize,
+    at: usize,
+    slots: [Slot; 32],
+    bound: usize,
+) -> [Slot; 32]
+    requires { ⌜ (bound + count ≤ 32) × (at ≤ 4096) × (modes < 16777216) × (scale ≤ 2) ⌝ }
+    ensures { λ r. ⌜ r ≡ laidOf (now (file .entry)) scale at count modes bound slots ⌝ }
+{
+    let mut out = slots;
+    let mut j: usize = 0;
+    while j < count {
+        let kind = kind_of(byte(file, modes + j) * scale);
+        out[bound + j] = Slot {
+            kind,
+            place: at as u16,
+        };
+        j += 1;
+    }
+    out
+}
+
+// How many credits a branch binds: none where the arity is 0.
+fn credits(k: usize, credit: usize) -> usize
+    ensures { λ r. ⌜ r ≡ creditsOf k credit ⌝ }
+{
+    if k == 0 {
+        return 0;
+    }
+    credit
+}
+
+// The slots that a branch starts from.
+fn branch_slots(
+    file: &[u8],
+    decl: &[u32; 128],
+    c: usize,
+    at: usize,
+    credit: usize,
+    slots: [Slot; 32],
+    bound: usize,
+) -> [Slot; 32]
+    requires { ⌜ (c < 256) × (at ≤ 4096) × (credit ≤ 1) × (bound + arityIn (now decl) c + creditsOf (arityIn (now decl) c) credit ≤ 32) × (length (now decl) ≡ 128) ⌝ }
+    ensures { λ r. ⌜ r ≡ branchOf (now (file .entry)) (now (decl .entry)) c at credit slots bound ⌝ }
+{
+    let k = arity(decl, c);
+    let mut out = bind_all(file, sorts(decl, c), 1 + credit, k, at, slots, bound);
+    if credits(k, credit) == 1 {
+        out[bound + k] = Slot {
+            kind: Kind::Credit(k as u8),
+            place: at as u16,
+        };
+    }
+    out
+}
+
+// Is the constructor in the set?
+fn sees(seen: u64, c: usize) -> bool
+    requires { ⌜ c < 64 ⌝ }
+    ensures { λ r. ⌜ r ≡ getD (bitsOf 64 seen) c false ⌝ }
+{
+    (seen >> (c as u64)) % 2 == 1
+}
+
+// The set with the constructor.
+fn seeing(seen: u64, c: usize) -> u64
+    requires { ⌜ c < 64 ⌝ }
+    ensures { λ r. ⌜ r ≡ bitOr seen (2 ^ c) ⌝ }
+{
+    seen | (1 << (c as u64))
+}
+
+// The term at a place, with so many slots bound.
+pub(crate) fn check_term(
+    file: &[u8],
+    decl: &[u32; 128],
+    at: usize,
+    result: usize,
+    slots: [Slot; 32],
+    bound: usize,
+) -> Checked
+    requires { ⌜ Ready (now file) (now decl) at result bound ⌝ }
+    ensures { λ r. ⌜ Judged (now (file .entry)) (now (decl .entry)) at result slots bound r ⌝ }
+{
+    let m = mark(file, at);
+    let t = take_record(file, decl, at, m, result, slots, bound);
+    if t.number != 0 {
+        return Checked::Fault(t.number, t.place);
+    }
+    let more = bound + binds(m);
+    let kind = bound_kind(file, decl, at, m);
+    let inner = keep(slots, t.spent, bound, more, kind, at);
+    let then = follows(file, decl, at, m);
+    match then {
+        Then::Leaf(next) => Checked::Next(next),
+        Then::One(next) => check_term(file, decl, next, result, inner, more),
+        Then::Two(next) => match check_term(file, decl, next, result, inner, more) {
+            Checked::Next(second) => check_term(file, decl, second, result, inner, more),
+            Checked::Fault(number, place) => Checked::Fault(number, place),
+        },
+        Then::Many(next, count, credit) => {
+            check_branches(file, decl, next, count, credit, 0, result, inner, more)
+        }
+    }
+}
+
+// So many branches from a place on, each from the same slots.
+pub(crate) fn check_branches(
+    file: &[u8],
+    decl: &[u32; 128],
+    at: usize,
+    left: usize,
+    credit: usize,
+    seen: u64,
+    result: usize,
+    slots: [Slot; 32],
+    bound: usize,
+) -> Checked
+    requires { ⌜ ReadyAll (now file) (now decl) at left credit result bound ⌝ }
+    ensures { λ r. ⌜ JudgedAll (now (file .entry)) (now (decl .entry)) at left credit seen result slots bound r ⌝ }
+{
+    if left == 0 {
+        return Checked::Next(at);
+    }
+    let c = byte(file, at + 2);
+    if sees(seen, c) {
+        return Checked::Fault(12, at + 2);
+    }
+    let k = arity(decl, c);
+    let inner = branch_slots(file, decl, c, at, credit, slots, bound);
+    let more = bound + k + credits(k, credit);
+    match check_term(file, decl, at + 3, result, inner, more) {
+        Checked::Next(next) => check_branches(file, decl, next, left - 1, credit, seeing(seen, c), result, slots, bound),
+        Checked::Fault(number, place) => Checked::Fault(number, place),
+    }
+}
+
+// The place of a function's mark.
+fn head(decl: &[u32; 128], f: usize) -> usize
+    requires { ⌜ (f < 256) × (length (now decl) ≡ 128) ⌝ }
+    ensures { λ r. ⌜ r ≤ modesIn (now (decl .entry)) f ⌝ }
+{
+    let first = modes(decl, f);
+    if 3 <= first {
+        return first - 3;
+    }
+    0
+}
+
+// A function's body, from its parameters.
+fn check_body(file: &[u8], decl: &[u32; 128], f: usize) -> Checked
+    requires { ⌜ ReadyBody (now file) (now decl) f ⌝ }
+    ensures { λ r. ⌜ JudgedBody (now (file .entry)) (now (decl .entry)) f r ⌝ }
+{
+    let n = params(decl, f);
+    let fresh = fresh_slots();
+    let slots = bind_all(file, modes(decl, f), 1, n, head(decl, f), fresh, 0);
+    check_term(file, decl, word(decl, 96 + f), result_of(file, decl, f), slots, n)
+}
+
+// The bodies of a file that was read, in order.
+pub(crate) fn check_bodies(file: &[u8], decl: &[u32; 128], funs: usize) -> Checked
+    requires { ⌜ ReadyFile (now file) (now decl) funs ⌝ }
+    ensures { λ r. ⌜ JudgedFile (now (file .entry)) (now (decl .entry)) funs r ⌝ }
+{
+    let mut f: usize = 0;
+    while f < funs {
+        match check_body(file, decl, f) {
+            Checked::Fault(number, place) => {
+                return Checked::Fault(number, place);
+            }
+            Checked::Next(next) => {}
+        }
+        f += 1;
+    }
+    Checked::Next(0)
+}

@@ -1,0 +1,346 @@
+// The slots of a path: what a record may ask of one, sets of slots as the bits of a number, and slots spent and bound.
+use meaning::Kind;
+use meaning::Slot;
+ghost use mathlib.Core.Path.{_≡_};
+ghost use mathlib.Core.Bool.{Bool, true, false};
+ghost use Prim.Native.Nat.{_+_, _*_, _^_, _<_, _≤_};
+ghost use lib.ListN.{set, getD, replicate};
+ghost use lib.Bits.{bitOr};
+ghost use Rattle.meaning.specs.Sets.{first};
+ghost use Rattle.meaning.specs.Ownership.{fits, sized, leftover, remains};
+ghost use Rattle.meaning.specs.Ownership as tree;
+ghost use Rattle.checker.specs.OwnershipBits.{bitsOf};
+ghost use Rattle.checker.specs.Slots.{kindOf, usedIn, usedKind, nowKind, wantOf, spendsOf, testOf, kindAt, wantAt, wantBack, slotsOf, spentBy, keptOf, unbound};
+
+// What a record asks of a slot: a number, a lent tree to look at, a tree to lend, an owned tree, or a credit of a size.
+pub enum Want {
+    Number,
+    Looked,
+    Lent,
+    Owned,
+    Credit(u8),
+}
+
+// Is it a number?
+fn is_number(kind: Kind) -> bool
+    ensures { λ r. ⌜ r ≡ fits tree.Want.number (kindOf kind) ⌝ }
+{
+    match kind {
+        Kind::Number => true,
+        Kind::Lent => false,
+        Kind::Owned => false,
+        Kind::Credit(size) => false,
+        Kind::UsedOwned => false,
+        Kind::UsedCredit(size) => false,
+    }
+}
+
+// Is it a lent tree?
+fn is_lent(kind: Kind) -> bool
+    ensures { λ r. ⌜ r ≡ fits tree.Want.looked (kindOf kind) ⌝ }
+{
+    match kind {
+        Kind::Number => false,
+        Kind::Lent => true,
+        Kind::Owned => false,
+        Kind::Credit(size) => false,
+        Kind::UsedOwned => false,
+        Kind::UsedCredit(size) => false,
+    }
+}
+
+// Is it a tree, lent or owned?
+fn is_tree(kind: Kind) -> bool
+    ensures { λ r. ⌜ r ≡ fits tree.Want.lent (kindOf kind) ⌝ }
+{
+    match kind {
+        Kind::Number => false,
+        Kind::Lent => true,
+        Kind::Owned => true,
+        Kind::Credit(size) => false,
+        Kind::UsedOwned => true,
+        Kind::UsedCredit(size) => false,
+    }
+}
+
+// Is it an owned tree, used or not?
+fn is_owned(kind: Kind) -> bool
+    ensures { λ r. ⌜ r ≡ fits tree.Want.owned (kindOf kind) ⌝ }
+{
+    match kind {
+        Kind::Number => false,
+        Kind::Lent => false,
+        Kind::Owned => true,
+        Kind::Credit(size) => false,
+        Kind::UsedOwned => true,
+        Kind::UsedCredit(size) => false,
+    }
+}
+
+// Is it a credit, used or not?
+fn is_credit(kind: Kind) -> bool
+    ensures { λ r. ⌜ r ≡ fits (tree.Want.credit 0) (kindOf kind) ⌝ }
+{
+    match kind {
+        Kind::Number => false,
+        Kind::Lent => false,
+        Kind::Owned => false,
+        Kind::Credit(size) => true,
+        Kind::UsedOwned => false,
+        Kind::UsedCredit(size) => true,
+    }
+}
+
+// Is it used?
+fn is_used(kind: Kind) -> bool
+    ensures { λ r. ⌜ r ≡ usedIn kind ⌝ }
+{
+    match kind {
+        Kind::Number => false,
+        Kind::Lent => false,
+        Kind::Owned => false,
+        Kind::Credit(size) => false,
+        Kind::UsedOwned => true,
+        Kind::UsedCredit(size) => true,
+    }
+}
+
+// Is it, where it is a credit, one of the size?
+fn has_size(kind: Kind, size: u8) -> bool
+    ensures { λ r. ⌜ r ≡ sized (tree.Want.credit size) (kindOf kind) ⌝ }
+{
+    match kind {
+        Kind::Number => true,
+        Kind::Lent => true,
+        Kind::Owned => true,
+        Kind::Credit(held) => size == held,
+        Kind::UsedOwned => true,
+        Kind::UsedCredit(held) => size == held,
+    }
+}
+
+// Is the kind right (else 8)?
+fn suits(kind: Kind, want: Want) -> bool
+    ensures { λ r. ⌜ r ≡ fits (wantOf want) (kindOf kind) ⌝ }
+{
+    match want {
+        Want::Number => is_number(kind),
+        Want::Looked => is_lent(kind),
+        Want::Lent => is_tree(kind),
+        Want::Owned => is_owned(kind),
+        Want::Credit(size) => is_credit(kind),
+    }
+}
+
+// Is the size right (else 10)?
+fn right_size(kind: Kind, want: Want) -> bool
+    ensures { λ r. ⌜ r ≡ sized (wantOf want) (kindOf kind) ⌝ }
+{
+    match want {
+        Want::Number => true,
+        Want::Looked => true,
+        Want::Lent => true,
+        Want::Owned => true,
+        Want::Credit(size) => has_size(kind, size),
+    }
+}
+
+// A slot's test: 0, or 8, 9 or 10 in this order. `barred`: it counts as used.
+pub fn test(kind: Kind, want: Want, barred: bool) -> u32
+    ensures { λ r. ⌜ r ≡ testOf kind want barred ⌝ }
+{
+    if suits(kind, want) {
+        if is_used(kind) {
+            return 9;
+        }
+        if barred {
+            return 9;
+        }
+        if right_size(kind, want) {
+            return 0;
+        }
+        return 10;
+    }
+    8
+}
+
+// Does the slot become used?
+pub fn spends(want: Want) -> bool
+    ensures { λ r. ⌜ r ≡ spendsOf want ⌝ }
+{
+    match want {
+        Want::Number => false,
+        Want::Looked => false,
+        Want::Lent => false,
+        Want::Owned => true,
+        Want::Credit(size) => true,
+    }
+}
+
+// A kind after it was spent.
+fn used(kind: Kind) -> Kind
+    ensures { λ r. ⌜ r ≡ usedKind kind ⌝ }
+{
+    match kind {
+        Kind::Number => Kind::Number,
+        Kind::Lent => Kind::Lent,
+        Kind::Owned => Kind::UsedOwned,
+        Kind::Credit(size) => Kind::UsedCredit(size),
+        Kind::UsedOwned => Kind::UsedOwned,
+        Kind::UsedCredit(size) => Kind::UsedCredit(size),
+    }
+}
+
+// A kind as it is now, spent or not.
+pub fn current(kind: Kind, gone: bool) -> Kind
+    ensures { λ r. ⌜ r ≡ nowKind gone kind ⌝ }
+{
+    if gone {
+        return used(kind);
+    }
+    kind
+}
+
+// Is it an owned tree or a credit that is not used?
+fn is_left(kind: Kind) -> bool
+    ensures { λ r. ⌜ r ≡ remains (record { kind = kindOf kind; used = usedIn kind }) ⌝ }
+{
+    match kind {
+        Kind::Number => false,
+        Kind::Lent => false,
+        Kind::Owned => true,
+        Kind::Credit(size) => true,
+        Kind::UsedOwned => false,
+        Kind::UsedCredit(size) => false,
+    }
+}
+
+// What a parameter's mode asks for: 0 a number, 1 a tree to lend, 2 an owned tree.
+pub fn want_of(mode: usize) -> Want
+    ensures { λ r. ⌜ r ≡ wantAt mode ⌝ }
+{
+    if mode == 0 {
+        return Want::Number;
+    }
+    if mode == 1 {
+        return Want::Lent;
+    }
+    Want::Owned
+}
+
+// What a result's sort asks for where it is given back: 0 a number, 1 an owned tree.
+pub fn want_back(sort: usize) -> Want
+    ensures { λ r. ⌜ r ≡ wantBack sort ⌝ }
+{
+    if sort == 0 {
+        return Want::Number;
+    }
+    Want::Owned
+}
+
+// The kind of slot that a mode binds: 0 a number, 1 lent, 2 owned.
+pub fn kind_of(mode: usize) -> Kind
+    ensures { λ r. ⌜ r ≡ kindAt mode ⌝ }
+{
+    if mode == 0 {
+        return Kind::Number;
+    }
+    if mode == 1 {
+        return Kind::Lent;
+    }
+    Kind::Owned
+}
+
+// Is slot i in the set?
+pub fn has(slots: u32, i: usize) -> bool
+    requires { ⌜ i < 32 ⌝ }
+    ensures { λ r. ⌜ r ≡ getD (bitsOf 32 slots) i false ⌝ }
+{
+    (slots >> (i as u32)) % 2 == 1
+}
+
+// The set with slot i.
+pub fn with(slots: u32, i: usize) -> u32
+    requires { ⌜ i < 32 ⌝ }
+    ensures { λ r. ⌜ r ≡ bitOr slots (2 ^ i) ⌝ }
+{
+    slots | (1 << (i as u32))
+}
+
+// The first slot of a set.
+fn lowest(slots: u32) -> usize
+    requires { ⌜ 0 < slots ⌝ }
+    ensures { λ r. ⌜ (r ≡ first (bitsOf 32 slots)) × (r < 32) ⌝ }
+{
+    u32::trailing_zeros(slots) as usize
+}
+
+// The set without its first slot.
+fn without_lowest(slots: u32) -> u32
+    requires { ⌜ 0 < slots ⌝ }
+    ensures { λ r. ⌜ (bitsOf 32 r ≡ set (bitsOf 32 slots) (first (bitsOf 32 slots)) false) × (r < slots) ⌝ }
+{
+    slots & (slots - 1)
+}
+
+// Is an owned slot or a credit left among the bound ones, those of the set spent?
+pub fn left_over(slots: [Slot; 32], bound: usize, spent: u32) -> bool
+    requires { ⌜ bound ≤ 32 ⌝ }
+    ensures { λ r. ⌜ r ≡ leftover (slotsOf bound (spentBy (bitsOf 32 spent) slots)) ⌝ }
+{
+    let mut i: usize = 0;
+    while i < bound {
+        let slot = slots[i];
+        let was = slot.kind;
+        let kind = current(was, has(spent, i));
+        if is_left(kind) {
+            return true;
+        }
+        i += 1;
+    }
+    false
+}
+
+// The slots with those of the set spent, and the next one bound where there are to be more.
+pub fn keep(
+    slots: [Slot; 32],
+    spent: u32,
+    bound: usize,
+    more: usize,
+    kind: Kind,
+    at: usize,
+) -> [Slot; 32]
+    requires { ⌜ (more ≤ 32) × (at ≤ 4096) ⌝ }
+    ensures { λ r. ⌜ r ≡ keptOf slots spent bound more kind at ⌝ }
+{
+    let mut out = slots;
+    let mut todo = spent;
+    while todo != 0 {
+        let i = lowest(todo);
+        let slot = out[i];
+        let was = slot.kind;
+        let gone = used(was);
+        out[i] = Slot {
+            kind: gone,
+            place: slot.place,
+        };
+        todo = without_lowest(todo);
+    }
+    if bound < more {
+        out[bound] = Slot {
+            kind,
+            place: at as u16,
+        };
+    }
+    out
+}
+
+// Slots of which none is bound.
+pub fn fresh_slots() -> [Slot; 32]
+    ensures { λ r. ⌜ r ≡ replicate 32 unbound ⌝ }
+{
+    [Slot {
+        kind: Kind::Number,
+        place: 0,
+    }; 32]
+}
