@@ -1,11 +1,12 @@
 pub mod Marked
 pub mod Words
 pub mod Skipping
+pub mod Ends
 pub mod Nodes
 pub mod Laying
 pub mod Frames
-pub mod Whole
 pub mod Needed
 pub mod Behind
+pub mod Whole
 pub mod Runs
 pub mod First

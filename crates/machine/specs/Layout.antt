@@ -1,6 +1,6 @@
 -- What each node does to the words: the state of numbers with the work area, and the store. Assumes nothing.
 -- The work area: the slots of frame d at 32 * d; where frame d goes on, and its count of slots, at 1024 + 2 * d.
-use Prim.Native.Nat.{ℕ, zero, suc, _+_, _*_, _-_, max}
+use Prim.Native.Nat.{ℕ, zero, suc, _+_, _*_, _-_, _<_, max}
 use mathlib.Core.List.{List, [], _∷_}
 use lib.ListN.{length, getD, set}
 use lib.Dec.{ltb, leb, eqb}
@@ -35,6 +35,10 @@ slotIn bytes work base at = getD work (base + byteAt bytes at) 0
 unfoldable pub gathered : List ℕ → List ℕ → (base at k : ℕ) → List ℕ
 gathered bytes work base at zero = []
 gathered bytes work base at (suc k) = slotIn bytes work base at ∷ gathered bytes work base (at + 1) k
+
+-- bytes that name slots below 32
+abbrev pub Low : List ℕ → (at k : ℕ) → Type 0
+Low bytes at k = (j : ℕ) → j < k → byteAt bytes (at + j) < 32
 
 -- k words from a place on
 unfoldable pub words : List ℕ → (from k : ℕ) → List ℕ
@@ -118,10 +122,8 @@ openedOf decl store c w con b credit =
     pick (ltb w 65536) (top (moved (c .state) b) (c .work))
     (top (going b (c .state .frame .depth) (c .state .frame .bound + k + credit) (c .state .most)) (pick (eqb credit 1) (set filled (to + k) w) filled))
 
-unfoldable pub opOf : List ℕ → List ℕ → List ℕ → Top → (b credit : ℕ) → Top
-opOf bytes decl store c b credit =
-    let w = slotIn bytes (c .work) (c .state .frame .depth * 32) (c .state .frame .at + 2) in
-    pick (eqb b 0) (top (ended (c .state) 31 0) (c .work)) (openedOf decl store c w (conOf store w) b credit)
+unfoldable pub opOf : List ℕ → List ℕ → Top → (w b credit : ℕ) → Top
+opOf decl store c w b credit = pick (eqb b 0) (top (ended (c .state) 31 0) (c .work)) (openedOf decl store c w (conOf store w) b credit)
 
 -- the first state: function 0's body, the arguments as slots
 unfoldable pub firstOf : (decl args work : List ℕ) → Top

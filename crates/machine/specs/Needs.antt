@@ -3,8 +3,8 @@ use Prim.Native.Nat.{ℕ, zero, suc, _+_, _*_, _-_, _≤_, _<_}
 use mathlib.Core.List.{List}
 use mathlib.Core.Path.{_≡_}
 use lib.ListN.{length, getD}
-use Rattle.machine.specs.Layout.{Top, slotIn, conOf}
-use Rattle.machine.specs.Skips.{Skips, SkipsAll, Found}
+use Rattle.machine.specs.Layout.{Top, slotIn, conOf, Low}
+use Rattle.machine.specs.Skips.{Skips, SkipsAll, Found, EndNeeds}
 use Rattle.standing.specs.Bytes.{byteAt, markAt, arityIn, paramsIn}
 use Rattle.meaning.specs.Marks.{Mark, markOf}
 
@@ -24,12 +24,15 @@ abbrev pub CallNeeds : (bytes decl : List ℕ) → Top → Type 0
 CallNeeds bytes decl c =
     Room 3 bytes c × (c .state .frame .bound ≤ 32) × (byteAt bytes (c .state .frame .at + 2) < 32) × (c .state .frame .at + 3 + paramsIn decl (byteAt bytes (c .state .frame .at + 2)) ≤ length bytes)
     × (paramsIn decl (byteAt bytes (c .state .frame .at + 2)) ≤ 8) × (length bytes ≤ 4096) × (c .state .most ≤ 32)
+    × Low bytes (c .state .frame .at + 3) (paramsIn decl (byteAt bytes (c .state .frame .at + 2)))
 
 -- an opened cell: the branch's constructor is declared, and its fields have room
 pub record OpenNeeds (bytes decl store : List ℕ) (c : Top) (credit : ℕ) : Type 0 where
   pub room : Room 4 bytes c
   pub bound : c .state .frame .bound ≤ 32
+  pub ends : EndNeeds bytes decl (c .work)
   pub next : ℕ
+  pub small : next ≤ 4096
   pub branches : SkipsAll bytes decl (c .state .frame .at + 4) (byteAt bytes (c .state .frame .at + 3)) next
   pub cell : 65536 ≤ word-at 2 bytes c → (word-at 2 bytes c - 65536) * 5 + 5 ≤ length store
   pub opens : (b : ℕ) → Found bytes decl (conOf store (word-at 2 bytes c)) (c .state .frame .at + 4) (byteAt bytes (c .state .frame .at + 3)) b → 0 < b
@@ -46,7 +49,7 @@ NeedsAt Mark.OP bytes decl store c = OpenNeeds bytes decl store c 1
 NeedsAt Mark.LK bytes decl store c = OpenNeeds bytes decl store c 0
 NeedsAt Mark.NU bytes decl store c = Room 4 bytes c × (c .state .frame .bound < 32)
 NeedsAt Mark.AR bytes decl store c = Room 5 bytes c × (c .state .frame .bound < 32)
-NeedsAt Mark.IF bytes decl store c = Room 3 bytes c × ((next : ℕ) × Skips bytes decl (c .state .frame .at + 3) next)
+NeedsAt Mark.IF bytes decl store c = Room 3 bytes c × EndNeeds bytes decl (c .work) × ((next : ℕ) × Skips bytes decl (c .state .frame .at + 3) next × (next ≤ 4096))
 NeedsAt Mark.CN bytes decl store c = Unit {0}
 NeedsAt Mark.FN bytes decl store c = Unit {0}
 NeedsAt Mark.BD bytes decl store c = Unit {0}

@@ -4,6 +4,7 @@ use mathlib.Core.List.{List, [], _∷_}
 use mathlib.Core.Path.{_≡_}
 use lib.ListN.{length, getD}
 use Rattle.machine.specs.Layout.{Top}
+use Rattle.machine.specs.Skips.{Known}
 use Rattle.meaning.specs.Syntax.{Sort, File}
 use Rattle.meaning.specs.Plain.{place-of}
 use Rattle.meaning.specs.Machine.{Held, Store, Frame, Step, held, function-of}
@@ -75,6 +76,7 @@ pub record Fit (bytes decl store : List ℕ) (c : Top) : Type 0 where
   pub once : Once All
   pub most : suc (length (st .under)) ≤ c .state .most
   pub high : c .state .most ≤ 32
+  pub known : Known bytes decl (c .work)
 
 -- the words of a start that is not refused, for an accepted file
 pub record Begun (bytes decl args store work : List ℕ) : Type 0 where
@@ -84,3 +86,4 @@ pub record Begun (bytes decl args store work : List ℕ) : Type 0 where
   pub many : length args ≡ length (function-of file 0 .parameters)
   pub started : Started file args store
   pub room : 4096 ≤ length work
+  pub clear : (q : ℕ) → 1088 ≤ q → q < 3136 → getD work q 0 ≡ 0

@@ -1,8 +1,8 @@
 -- The byte after a term, and the branch of a constructor, by the marks alone: a record's fixed fields by the table of marks. Assumes nothing.
-use Prim.Native.Nat.{ℕ, zero, suc, _+_, _≤_, _<_}
+use Prim.Native.Nat.{ℕ, zero, suc, _+_, _/_, _%_, _≤_, _<_}
 use mathlib.Core.List.{List}
 use mathlib.Core.Path.{_≡_}
-use lib.ListN.{length}
+use lib.ListN.{length, getD, drop}
 use Rattle.machine.specs.declared.step.Then.{Then}
 use Rattle.machine.specs.declared.step.Then.the-variants.{Leaf, One, Two, Many}
 use Rattle.meaning.specs.Marks.{Mark, rowAt, numberOf, markOf}
@@ -73,3 +73,17 @@ module _ (bytes decl : List ℕ) where
     none : {at n r : ℕ} → n ≡ 0 → r ≡ 0 → Found con at n r
     here : {at n k r : ℕ} → n ≡ suc k → byteAt bytes (at + 2) ≡ con → r ≡ at + 3 → Found con at n r
     later : {at n k m r : ℕ} → n ≡ suc k → (byteAt bytes (at + 2) ≡ con → ⊥) → Skips (at + 3) m → Found con m k r → Found con at n r
+
+-- What the work area keeps of the terms that were passed over: a word from 1088 on that is a * 8192 + next says that the term at a ends at next.
+abbrev pub Known : (bytes decl work : List ℕ) → Type 0
+Known bytes decl work = (q : ℕ) → 1088 ≤ q → q < 3136 → 0 < getD work q 0 → Skips bytes decl (getD work q 0 / 8192) (getD work q 0 % 8192)
+
+abbrev pub EndNeeds : (bytes decl work : List ℕ) → Type 0
+EndNeeds bytes decl work = Known bytes decl work × (length bytes ≤ 4096) × (4096 ≤ length work)
+
+-- a work area in which nothing but that has changed
+pub record Keeps (bytes decl work work′ : List ℕ) : Type 0 where
+  pub long : length work′ ≡ length work
+  pub low : (q : ℕ) → q < 1088 → getD work′ q 0 ≡ getD work q 0
+  pub behind : drop 4096 work′ ≡ drop 4096 work
+  pub known : Known bytes decl work′

@@ -6,27 +6,32 @@ use lib.Dec.{eqb}
 use Rattle.meaning.specs.Machine.{Answer, answers}
 use Rattle.machine.specs.declared.frame.State.{State}
 use Rattle.machine.specs.declared.step.Ran.{Ran}
-use Rattle.machine.specs.Layout.{Top, moved, slotIn, nuOf, atOf, arOf, gvOf, tlOf, clOf, mkStore, mkOf, conOf, opOf}
-use Rattle.machine.specs.Skips.{Skips, Found}
+use Rattle.machine.specs.Layout.{Top, top, moved, slotIn, nuOf, atOf, arOf, gvOf, tlOf, clOf, mkStore, mkOf, conOf, opOf}
+use Rattle.machine.specs.Skips.{Skips, Found, Keeps}
 use Rattle.standing.specs.Bytes.{byteAt, markAt}
 use Rattle.meaning.specs.Choice.{pick}
 use Rattle.meaning.specs.Marks.{Mark, markOf}
 
-abbrev pub constructorIn : List ℕ → List ℕ → Top → ℕ
-constructorIn bytes store c = conOf store (slotIn bytes (c .work) (c .state .frame .depth * 32) (c .state .frame .at + 2))
-
--- IF: the first term, or the byte after it
-pub record Chosen (bytes decl : List ℕ) (c : Top) (s : State) : Type 0 where
-  pub at : ℕ
-  pub second : slotIn bytes (c .work) (c .state .frame .depth * 32) (c .state .frame .at + 2) ≡ 0 → Skips bytes decl (c .state .frame .at + 3) at
-  pub first : (slotIn bytes (c .work) (c .state .frame .depth * 32) (c .state .frame .at + 2) ≡ 0 → ⊥) → at ≡ c .state .frame .at + 3
-  pub is : s ≡ moved (c .state) at
+-- the word of the slot that OP, LK or IF names
+abbrev pub named : List ℕ → Top → ℕ
+named bytes c = slotIn bytes (c .work) (c .state .frame .depth * 32) (c .state .frame .at + 2)
 
 -- OP and LK: the branch that is found, and what it starts from
-abbrev pub Opens : (bytes decl store : List ℕ) → (credit : ℕ) → Top → (store′ : List ℕ) → Top → Type 0
-Opens bytes decl store credit c store′ c′ =
-    (store′ ≡ store)
-    × ((b : ℕ) × Found bytes decl (constructorIn bytes store c) (c .state .frame .at + 4) (byteAt bytes (c .state .frame .at + 3)) b × (c′ ≡ opOf bytes decl store c b credit))
+pub record Opened (bytes decl store : List ℕ) (credit : ℕ) (c c′ : Top) : Type 0 where
+  pub at : ℕ
+  pub found : Found bytes decl (conOf store (named bytes c)) (c .state .frame .at + 4) (byteAt bytes (c .state .frame .at + 3)) at
+  pub work : List ℕ
+  pub keeps : Keeps bytes decl (c .work) work
+  pub is : c′ ≡ opOf decl store (top (c .state) work) (named bytes c) at credit
+
+-- IF: the first term, or the byte after it
+pub record Chosen (bytes decl : List ℕ) (c c′ : Top) : Type 0 where
+  pub at : ℕ
+  pub second : named bytes c ≡ 0 → Skips bytes decl (c .state .frame .at + 3) at
+  pub first : (named bytes c ≡ 0 → ⊥) → at ≡ c .state .frame .at + 3
+  pub work : List ℕ
+  pub keeps : Keeps bytes decl (c .work) work
+  pub is : c′ ≡ top (moved (c .state) at) work
 
 abbrev pub StepsAt : Mark → (bytes decl store : List ℕ) → Top → (store′ : List ℕ) → Top → Type 0
 StepsAt Mark.GV bytes decl store c store′ c′ = (store′ ≡ store) × (c′ ≡ gvOf bytes c)
@@ -34,11 +39,11 @@ StepsAt Mark.AT bytes decl store c store′ c′ = (store′ ≡ store) × (c′
 StepsAt Mark.MK bytes decl store c store′ c′ = (store′ ≡ mkStore bytes decl store c) × (c′ ≡ mkOf bytes decl c)
 StepsAt Mark.CL bytes decl store c store′ c′ = (store′ ≡ store) × (c′ ≡ clOf bytes decl c)
 StepsAt Mark.TL bytes decl store c store′ c′ = (store′ ≡ store) × (c′ ≡ tlOf bytes decl c)
-StepsAt Mark.OP bytes decl store c store′ c′ = Opens bytes decl store 1 c store′ c′
-StepsAt Mark.LK bytes decl store c store′ c′ = Opens bytes decl store 0 c store′ c′
+StepsAt Mark.OP bytes decl store c store′ c′ = (store′ ≡ store) × Opened bytes decl store 1 c c′
+StepsAt Mark.LK bytes decl store c store′ c′ = (store′ ≡ store) × Opened bytes decl store 0 c c′
 StepsAt Mark.NU bytes decl store c store′ c′ = (store′ ≡ store) × (c′ ≡ nuOf bytes c)
 StepsAt Mark.AR bytes decl store c store′ c′ = (store′ ≡ store) × (c′ ≡ arOf bytes c)
-StepsAt Mark.IF bytes decl store c store′ c′ = (store′ ≡ store) × Chosen bytes decl c (c′ .state) × (c′ .work ≡ c .work)
+StepsAt Mark.IF bytes decl store c store′ c′ = (store′ ≡ store) × Chosen bytes decl c c′
 StepsAt Mark.CN bytes decl store c store′ c′ = (store′ ≡ store) × (c′ ≡ c)
 StepsAt Mark.FN bytes decl store c store′ c′ = (store′ ≡ store) × (c′ ≡ c)
 StepsAt Mark.BD bytes decl store c store′ c′ = (store′ ≡ store) × (c′ ≡ c)

@@ -1,10 +1,11 @@
 // A frame of the machine, the cells of the lent store, the state of a run, and a frame's slots in the lent work area.
-// Slot i of frame d lies at 32 * d + i; at 1024 + 2 * d lies the place where frame d goes on, and behind it its count of slots.
+// Slot i of frame d lies at 32 * d + i; at 1024 + 2 * d lies the place where frame d goes on, and behind it its count of slots; from
+// 1088 on lie the ends of the terms that were passed over.
 ghost use mathlib.Core.Path.{_≡_};
 ghost use Prim.Native.Nat.{_+_, _*_, _<_, _≤_};
 ghost use lib.ListN.{length, replicate};
 ghost use Rattle.standing.specs.Bytes.{byteAt};
-ghost use Rattle.machine.specs.Layout.{slotIn, top, moved, ended, bound, laid, gathered, words};
+ghost use Rattle.machine.specs.Layout.{slotIn, top, moved, ended, bound, laid, gathered, words, Low};
 
 // The top frame: the place of its term, the frames below it, and its slots that are bound.
 pub struct Frame {
@@ -19,6 +20,8 @@ impl Frame {
     pub const MAX: usize = 32;
 
     pub const SAVED: usize = 1024;
+
+    pub const ENDS: usize = 1088;
 
     // The first frame, with no term and no slots.
     pub(crate) fn empty() -> Frame
@@ -169,6 +172,20 @@ pub(crate) fn lay(work: &mut [u32], to: usize, values: [u32; 8], n: usize)
     let mut j: usize = 0;
     while j < n {
         work[to + j] = values[j];
+        j += 1;
+    }
+}
+
+// The words of n slots, laid above those slots.
+pub(crate) fn hand_over(file: &[u8], work: &mut [u32], base: usize, at: usize, to: usize, n: usize)
+    requires { ⌜ (at + n ≤ length (now file)) × (base + 32 ≤ to) × (to + n ≤ length (now work)) × Low (now file) at n ⌝ }
+    ensures { λ _. ⌜ now (work .exit) ≡ laid (now (work .entry)) to (gathered (now (file .entry)) (now (work .entry)) base at n) ⌝ }
+{
+    let mut j: usize = 0;
+    while j < n {
+        let i = byte(file, at + j);
+        let v = work[base + i];
+        work[to + j] = v;
         j += 1;
     }
 }

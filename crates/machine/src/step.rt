@@ -6,12 +6,12 @@ ghost use Rattle.meaning.specs.Marks.{findMark};
 ghost use Rattle.meaning.specs.Plain.{arithmetic};
 ghost use Rattle.meaning.specs.Machine.{run};
 ghost use Rattle.meaning.specs.InPlace.{begins};
-ghost use Rattle.standing.specs.Bytes.{byteAt, markAt, arityIn, paramsIn, bodyIn};
+ghost use Rattle.standing.specs.Bytes.{markAt, arityIn, paramsIn, bodyIn};
 ghost use Rattle.machine.specs.Layout.{slotIn, top, nuOf, atOf, arOf, gvOf, tlOf, clOf, mkOf, mkStore, conOf, openedOf, opOf, firstOf};
-ghost use Rattle.machine.specs.Skips.{Safe, thenOf, Skips, SkipsAll, Found};
-ghost use Rattle.machine.specs.Needs.{Room, word-at, MkNeeds, CallNeeds, OpenNeeds};
+ghost use Rattle.machine.specs.Skips.{Safe, thenOf, Skips, SkipsAll, Found, EndNeeds, Keeps};
+ghost use Rattle.machine.specs.Needs.{Room, MkNeeds, CallNeeds, OpenNeeds};
 ghost use Rattle.machine.specs.Represents.{Fit, Begun};
-ghost use Rattle.machine.specs.Steps.{Steps, Chosen, creditOf, placeOf, answerOf};
+ghost use Rattle.machine.specs.Steps.{Steps, Opened, Chosen, creditOf, placeOf, answerOf};
 use crate::frame::Frame;
 use crate::frame::State;
 use crate::frame::Store;
@@ -21,6 +21,7 @@ use crate::frame::fill;
 use crate::frame::finish;
 use crate::frame::gather;
 use crate::frame::go_to;
+use crate::frame::hand_over;
 use crate::frame::lay;
 use crate::frame::load;
 use crate::frame::slot;
@@ -203,11 +204,10 @@ fn call(file: &[u8], decl: &[u32; 128], work: &mut [u32], s: State) -> State
     let base = depth * Frame::SLOTS;
     let g = byte(file, at + 2);
     let n = params(decl, g);
-    let values = gather(file, work, base, at + 3, n);
     let q = Frame::SAVED + depth * 2;
     work[q] = (at + 3 + n) as u32;
     work[q + 1] = s.frame.bound as u32;
-    lay(work, base + Frame::SLOTS, values, n);
+    hand_over(file, work, base, at + 3, base + Frame::SLOTS, n);
     State {
         frame: Frame {
             at: body(decl, g),
@@ -287,10 +287,32 @@ pub(crate) fn skip_branches(file: &[u8], decl: &[u32; 128], at: usize, left: usi
     skip_branches(file, decl, next, left - 1)
 }
 
+// The byte after the term at a place, worked out once a run: a word of the work area keeps the place with it.
+fn end_of(file: &[u8], decl: &[u32; 128], work: &mut [u32], at: usize) -> usize
+    requires { ⌜ EndNeeds (now file) (now decl) (now work) × (0 < at) × ((next : ℕ) × Skips (now file) (now decl) at next × (next ≤ 4096)) ⌝ }
+    ensures { λ r. ⌜ Skips (now (file .entry)) (now (decl .entry)) at r × Keeps (now (file .entry)) (now (decl .entry)) (now (work .entry)) (now (work .exit)) ⌝ }
+{
+    let q = Frame::ENDS + at / 2;
+    let known = wide(work[q]);
+    if known / 8192 == at {
+        return known % 8192;
+    }
+    let next = skip_term(file, decl, at);
+    work[q] = (at * 8192 + next) as u32;
+    next
+}
+
 // Where the branch of a constructor has its term, or 0.
-fn find_branch(file: &[u8], decl: &[u32; 128], at: usize, count: usize, con: usize) -> usize
-    requires { ⌜ ((next : ℕ) × SkipsAll (now file) (now decl) at count next) ⌝ }
-    ensures { λ r. ⌜ Found (now (file .entry)) (now (decl .entry)) con at count r ⌝ }
+fn find_branch(
+    file: &[u8],
+    decl: &[u32; 128],
+    work: &mut [u32],
+    at: usize,
+    count: usize,
+    con: usize,
+) -> usize
+    requires { ⌜ EndNeeds (now file) (now decl) (now work) × ((next : ℕ) × SkipsAll (now file) (now decl) at count next × (next ≤ 4096)) ⌝ }
+    ensures { λ r. ⌜ Found (now (file .entry)) (now (decl .entry)) con at count r × Keeps (now (file .entry)) (now (decl .entry)) (now (work .entry)) (now (work .exit)) ⌝ }
 {
     let mut p = at;
     let mut left = count;
@@ -298,7 +320,7 @@ fn find_branch(file: &[u8], decl: &[u32; 128], at: usize, count: usize, con: usi
         if byte(file, p + 2) == con {
             return p + 3;
         }
-        p = skip_term(file, decl, p + 3);
+        p = end_of(file, decl, work, p + 3);
         left -= 1;
     }
     0
@@ -363,12 +385,12 @@ fn take_branch(
     credit: usize,
 ) -> State
     requires { ⌜ OpenNeeds (now file) (now decl) (now store) (top s (now work)) credit × (credit ≤ 1) ⌝ }
-    ensures { λ r. ⌜ ((b : ℕ) × Found (now (file .entry)) (now (decl .entry)) (conOf (now (store .entry)) (word-at 2 (now (file .entry)) (top s (now (work .entry))))) (s .frame .at + 4) (byteAt (now (file .entry)) (s .frame .at + 3)) b × (top r (now (work .exit)) ≡ opOf (now (file .entry)) (now (decl .entry)) (now (store .entry)) (top s (now (work .entry))) b credit)) ⌝ }
+    ensures { λ r. ⌜ Opened (now (file .entry)) (now (decl .entry)) (now (store .entry)) credit (top s (now (work .entry))) (top r (now (work .exit))) ⌝ }
 {
     let at = s.frame.at;
     let w = slot(file, work, s.frame.depth * Frame::SLOTS, at + 2);
     let con = constructor(store, w);
-    let b = find_branch(file, decl, at + 4, byte(file, at + 3), con);
+    let b = find_branch(file, decl, work, at + 4, byte(file, at + 3), con);
     if b == 0 {
         return finish(s, 31, 0);
     }
@@ -376,14 +398,14 @@ fn take_branch(
 }
 
 // IF: the first term if the number is not 0.
-fn choose(file: &[u8], decl: &[u32; 128], work: &[u32], s: State) -> State
-    requires { ⌜ Room 3 (now file) (top s (now work)) × ((next : ℕ) × Skips (now file) (now decl) (s .frame .at + 3) next) ⌝ }
-    ensures { λ r. ⌜ Chosen (now (file .entry)) (now (decl .entry)) (top s (now (work .entry))) r ⌝ }
+fn choose(file: &[u8], decl: &[u32; 128], work: &mut [u32], s: State) -> State
+    requires { ⌜ Room 3 (now file) (top s (now work)) × EndNeeds (now file) (now decl) (now work) × ((next : ℕ) × Skips (now file) (now decl) (s .frame .at + 3) next × (next ≤ 4096)) ⌝ }
+    ensures { λ r. ⌜ Chosen (now (file .entry)) (now (decl .entry)) (top s (now (work .entry))) (top r (now (work .exit))) ⌝ }
 {
     let at = s.frame.at;
     let v = slot(file, work, s.frame.depth * Frame::SLOTS, at + 2);
     if v == 0 {
-        let second = skip_term(file, decl, at + 3);
+        let second = end_of(file, decl, work, at + 3);
         return go_to(s, second);
     }
     go_to(s, at + 3)

@@ -5,7 +5,8 @@ use mathlib.Core.Path.{_≡_, refl, sym, ap, _∙_, subst}
 use native.Mathlib.Omega.{arith}
 use lib.ListN.{length, getD, set, drop, length-set, drop-of-length-le, replicate}
 use lib.Seq.{getD-set-same, getD-set-other, drop-set-lt, drop-cons}
-use Rattle.machine.specs.Layout.{laid, words, gathered, slotIn}
+use Rattle.machine.specs.Layout.{laid, words, gathered, slotIn, Low}
+use Rattle.standing.specs.Bytes.{byteAt}
 
 -- words that are laid
 pub laid-length : (l : List ℕ) (p : ℕ) (ws : List ℕ) → length (laid l p ws) ≡ length l
@@ -79,6 +80,33 @@ turn-gathered X m bytes work base to at n j i v h f e x =
 pub end-gathered : (X m bytes work : List ℕ) (base to at n j : ℕ) → n ≤ j → X ≡ laid m (to + j) (gathered bytes work base (at + j) (n - j)) → m ≡ X
 unfolding laid gathered
 end-gathered X m bytes work base to at n j h x = let a : n - j ≡ 0 = omega arith in sym (x ∙ ap (λ k. laid m (to + j) (gathered bytes work base (at + j) k)) a)
+
+-- slots laid above themselves: what lies below is as it was
+pub turn-handed : (X m bytes work : List ℕ) (base to at n j b : ℕ) → j < n → b ≡ byteAt bytes (at + j) → base + b < to → ((q : ℕ) → q < to → getD m q 0 ≡ getD work q 0)
+    → X ≡ laid m (to + j) (gathered bytes work base (at + j) (n - j))
+    → (X ≡ laid (set m (to + j) (getD m (base + b) 0)) (to + (j + 1)) (gathered bytes work base (at + (j + 1)) (n - (j + 1))))
+    × ((q : ℕ) → q < to → getD (set m (to + j) (getD m (base + b) 0)) q 0 ≡ getD work q 0)
+turn-handed X m bytes work base to at n j b h e l s x = (
+  turn-gathered X m bytes work base to at n j (to + j) (getD m (base + b) 0) h refl (s (base + b) l ∙ ap (λ i. getD work (base + i) 0) e) x,
+  λ q k. getD-set-other m (to + j) q (getD m (base + b) 0) 0 (λ z. omega arith) ∙ s q k,
+)
+
+gathered-same : (bytes work work′ : List ℕ) (base at n : ℕ) → ((j : ℕ) → j < n → slotIn bytes work′ base (at + j) ≡ slotIn bytes work base (at + j))
+    → gathered bytes work′ base at n ≡ gathered bytes work base at n
+unfolding gathered
+gathered-same bytes work work′ base at zero h = refl
+gathered-same bytes work work′ base at (suc n) h =
+    let e : at + 0 ≡ at = omega arith in
+    let a = rw e at (h 0 (omega arith)) in
+    let b = gathered-same bytes work work′ base (at + 1) n (λ j l. let z : at + 1 + j ≡ at + suc j = omega arith in rw z (h (suc j) (omega arith))) in
+    λ i. a i ∷ b i
+
+-- two words above the slots are written
+pub gathered-above : (bytes work : List ℕ) (base at n p v q w : ℕ) → base + 32 ≤ p → base + 32 ≤ q → Low bytes at n
+    → gathered bytes (set (set work p v) q w) base at n ≡ gathered bytes work base at n
+gathered-above bytes work base at n p v q w a b l =
+    gathered-same bytes work (set (set work p v) q w) base at n
+    (λ j k. let z = l j k in getD-set-other (set work p v) q (base + byteAt bytes (at + j)) w 0 (λ e. omega arith) ∙ getD-set-other work p (base + byteAt bytes (at + j)) v 0 (λ e. omega arith))
 
 pub words-length : (l : List ℕ) (p k : ℕ) → length (words l p k) ≡ k
 unfolding words

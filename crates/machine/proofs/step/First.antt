@@ -16,7 +16,7 @@ use Rattle.theory.proofs.Wellread.{accepted-well}
 use Rattle.standing.specs.Stands.{Stands}
 use Rattle.machine.specs.Layout.{Top, top, going, laid, firstOf}
 use Rattle.machine.specs.Represents.{Agrees, Words, Represents, Fit, Begun}
-use Rattle.machine.proofs.frame.Laid.{laid-at, laid-length, laid-behind}
+use Rattle.machine.proofs.frame.Laid.{laid-at, laid-length, laid-after, laid-behind}
 use Rattle.machine.proofs.step.Words.{words-make}
 use Rattle.machine.proofs.step.Laying.{Pairs, both, pairs-length, pairs-at}
 
@@ -98,6 +98,7 @@ module _ {bytes decl args store work : List ℕ} (b : Begun bytes decl args stor
         once = b .started .once;
         most = omega arith;
         high = omega arith;
+        known = λ q l m h. let z = laid-after work 0 args q (omega (arith, few)) ∙ b .clear q l m in absurd (omega (arith, z, h));
       }
 
   pub first-fit : {c : Top} → c ≡ firstOf decl args work → Fit bytes decl store c

@@ -12,10 +12,10 @@ use lib.Dec.{ltb, leb, eqb}
 use borrow.Author.Tests.{ltb-true, ltb-false, lt-ltb, le-ltb, le-leb, lt-leb, eq-eqb, ne-eqb}
 use Rattle.machine.specs.Layout.{Top, top, going, ended, bound, laid, gathered, words, slotIn, tlOf, clOf, mkOf, mkStore, conOf, opOf, openedOf}
 use Rattle.machine.specs.Represents.{Agrees, Words, Waits, Saved, Represents, After}
-use Rattle.machine.specs.Steps.{StepsAt, constructorIn}
+use Rattle.machine.specs.Steps.{StepsAt, named}
 use Rattle.machine.specs.Skips.{Found}
 use Rattle.machine.proofs.frame.Laid.{words-length, laid-length, laid-before, laid-after, laid-at}
-use Rattle.machine.proofs.step.Words.{words-make, words-keep, words-give-up, words-without, without-length, laid-write, gathered-map, saved-keep, bound-represents}
+use Rattle.machine.proofs.step.Words.{words-make, words-keep, words-give-up, words-without, without-length, laid-write, gathered-map, saved-keep, bound-represents, keeps-represents}
 use Rattle.machine.proofs.step.Laying.{Pairs, both, pairs-length, pairs-at, pairs-append, opened-pairs, looked-pairs, laid-snoc, held-owned, held-lent, argued-pairs, lays}
 use Rattle.machine.proofs.step.Skipping.{Taken, found-branch}
 use Rattle.machine.proofs.step.Nodes.{Rep, Goal, moves}
@@ -285,7 +285,7 @@ module _ (file : File) (budget : ℕ) (bytes decl : List ℕ) (d : Declared file
       → byteAt bytes (p + 2) ≡ s → byteAt bytes (p + 3) ≡ count bs → Each file bytes (length hs) credits (p + 4) bs nx
       → {store′ : Store} {c′ : Top} → StepsAt Mark.OP bytes decl store c store′ c′ → Goal file budget bytes decl (S.OP p s bs) hs store under c store′ c′
   unfolding step check opOf openedOf pick laid
-  op-sim {p} {s} {nx} {bs} {hs} {store} {under} {c} r m {slots = slots} {A = A} ready e e′ x {store′} {c′} k = rw (k .0, k .1 .2) (go (branch bs con) refl)
+  op-sim {p} {s} {nx} {bs} {hs} {store} {under} {c} r m {slots = slots} {A = A} ready e e′ x {store′} {c′} k = rw (k .0, k .1 .is) (go (branch bs con) refl)
     where
       w : ℕ
       w = word (held hs s)
@@ -294,7 +294,13 @@ module _ (file : File) (budget : ℕ) (bytes decl : List ℕ) (d : Declared file
       con = constructor-of store w
 
       b : ℕ
-      b = k .1 .0
+      b = k .1 .at
+
+      c₂ : Top
+      c₂ = top (c .state) (k .1 .work)
+
+      r₂ : Rep file budget bytes decl store c₂ (S.OP p s bs) hs under
+      r₂ = keeps-represents file bytes r (k .1 .keeps .long) (k .1 .keeps .low)
 
       slot-word : (getD (c .work) (length under * 32 + s) 0 ≡ w) × Shape store w
       slot-word =
@@ -307,7 +313,7 @@ module _ (file : File) (budget : ℕ) (bytes decl : List ℕ) (d : Declared file
       same = rw (r .here, r .depth, e) (slot-word .0)
 
       found : ((branch bs con ≡ none) × (b ≡ 0)) ⊎ Taken file bytes decl d (length hs) credits bs con b
-      found = found-branch file bytes decl d x refl (rw (same, con-same store w, r .here, e′) at (k .1 .1))
+      found = found-branch file bytes decl d x refl (rw (same, con-same store w, r .here, e′) at (k .1 .found))
 
       hs′ : List Held
       hs′ = give-up hs s
@@ -326,14 +332,14 @@ module _ (file : File) (budget : ℕ) (bytes decl : List ℕ) (d : Declared file
       snoc (y ∷ l) = let v : suc (length l + 1) ≡ suc (length l) + 1 = omega arith in ap suc (snoc l) ∙ v
 
       opens : (u : Taken file bytes decl d (length hs) credits bs con b) → Shape store w
-          → After file bytes (c .state .most) store store (opOf bytes decl store c b 1) (M.next (state store (u .term) (hs′ ++ gs) under))
+          → After file bytes (c .state .most) store store (opOf decl store c₂ (named bytes c) b 1) (M.next (state store (u .term) (hs′ ++ gs) under))
       opens u (atom l y) =
           let st : Stands file bytes (length hs + (length (fields-of file con) + credits (fields-of file con))) (u .term) (u .next) = u .stands in
           let fit = u .fits in
           let past = u .past in
           rw (same, con-same store w, ne-eqb b 0 (λ v. omega arith), l, y) (
-            lays file bytes c hs′ [] [] under store (u .term) b (c .state .frame .bound) (u .next) (r .depth) (r .deep) (r .bound ∙ sym long) (let few = r .few in omega (arith, long))
-                (words-give-up (c .work) (length under * 32) hs s (r .words)) (r .saved) (r .room) Pairs.none (u .here) (omega (arith, long, r .bound))
+            lays file bytes c₂ hs′ [] [] under store (u .term) b (c .state .frame .bound) (u .next) (r .depth) (r .deep) (r .bound ∙ sym long) (let few = r .few in omega (arith, long))
+                (words-give-up (k .1 .work) (length under * 32) hs s (r₂ .words)) (r₂ .saved) (r₂ .room) Pairs.none (u .here) (omega (arith, long, r .bound))
                 (subst (λ n. Stands file bytes n (u .term) (u .next)) (let v : length hs + 0 ≡ length hs′ + 0 = omega (arith, long) in v) (rw y at st)),
             refl,
             sym most,
@@ -352,18 +358,18 @@ module _ (file : File) (budget : ℕ) (bytes decl : List ℕ) (d : Declared file
           let z : length (ws ++ (w ∷ [])) ≡ suc (length fs) + 1 = snoc ws ∙ ap (λ k. k + 1) n in
           let zz = pairs-length ps in
           let to : ℕ = c .state .frame .depth * 32 + c .state .frame .bound in
-          let put : set (laid (c .work) to ws) (to + suc (length fs)) w ≡ laid (c .work) to (ws ++ (w ∷ [])) = ap (λ k. set (laid (c .work) to ws) (to + k) w) (sym n) ∙ laid-snoc (c .work) to ws w in
+          let put : set (laid (k .1 .work) to ws) (to + suc (length fs)) w ≡ laid (k .1 .work) to (ws ++ (w ∷ [])) = ap (λ i. set (laid (k .1 .work) to ws) (to + i) w) (sym n) ∙ laid-snoc (k .1 .work) to ws w in
           rw (same, con-same store w, ne-eqb b 0 (λ v. omega arith), l, y, ar, put) (
-            lays file bytes c hs′ (fields opened store (cell w) 1 (f ∷ fs) ++ (Held.credit (suc (length fs)) (cell w) ∷ [])) (ws ++ (w ∷ [])) under store (u .term) b
+            lays file bytes c₂ hs′ (fields opened store (cell w) 1 (f ∷ fs) ++ (Held.credit (suc (length fs)) (cell w) ∷ [])) (ws ++ (w ∷ [])) under store (u .term) b
                 (c .state .frame .bound + suc (length fs) + 1) (u .next) (r .depth) (r .deep) (r .bound ∙ sym long) (omega (arith, long, z, zz))
-                (words-give-up (c .work) (length under * 32) hs s (r .words)) (r .saved) (r .room) ps (u .here) (omega (arith, long, r .bound, n, z, zz))
+                (words-give-up (k .1 .work) (length under * 32) hs s (r₂ .words)) (r₂ .saved) (r₂ .room) ps (u .here) (omega (arith, long, r .bound, n, z, zz))
                 (subst (λ n. Stands file bytes n (u .term) (u .next)) (omega (arith, long, z, zz)) (rw y at st)),
             refl,
             sym most,
           )
 
       go : (o : Option Term) → branch bs con ≡ o
-          → After file bytes (c .state .most) store store (opOf bytes decl store c b 1) (elim o as (λ _. Step) [ none ↦ M.stuck 31 p | some t ↦ M.next (state store t (hs′ ++ gs) under) ])
+          → After file bytes (c .state .most) store store (opOf decl store c₂ (named bytes c) b 1) (elim o as (λ _. Step) [ none ↦ M.stuck 31 p | some t ↦ M.next (state store t (hs′ ++ gs) under) ])
       go none y =
           elim found [
             | inl v ↦ rw (v .1) (refl, refl, refl, r .here, refl)
@@ -373,7 +379,7 @@ module _ (file : File) (budget : ℕ) (bytes decl : List ℕ) (d : Declared file
           elim found [
             | inl v ↦ let t = v .0 in let z : _≡_ {A = ℕ} 0 1 = cc in absurd (omega arith)
             | inr v ↦ let i = v .is in let z : v .term ≡ t = cc in
-                subst (λ t. After file bytes (c .state .most) store store (opOf bytes decl store c b 1) (M.next (state store t (hs′ ++ gs) under))) z (opens v (slot-word .1))
+                subst (λ t. After file bytes (c .state .most) store store (opOf decl store c₂ (named bytes c) b 1) (M.next (state store t (hs′ ++ gs) under))) z (opens v (slot-word .1))
           ]
 
   pub lk-sim : {p s nx : ℕ} {bs : Branches} {hs : List Held} {store : Store} {under : List Frame} {c : Top} (r : Rep file budget bytes decl store c (S.LK p s bs) hs under)
@@ -381,7 +387,7 @@ module _ (file : File) (budget : ℕ) (bytes decl : List ℕ) (d : Declared file
       → byteAt bytes (p + 2) ≡ s → byteAt bytes (p + 3) ≡ count bs → Each file bytes (length hs) (λ c. 0) (p + 4) bs nx
       → {store′ : Store} {c′ : Top} → StepsAt Mark.LK bytes decl store c store′ c′ → Goal file budget bytes decl (S.LK p s bs) hs store under c store′ c′
   unfolding step check opOf openedOf pick laid
-  lk-sim {p} {s} {nx} {bs} {hs} {store} {under} {c} r m {slots = slots} {A = A} ready e e′ x {store′} {c′} k = rw (k .0, k .1 .2) (go (branch bs con) refl)
+  lk-sim {p} {s} {nx} {bs} {hs} {store} {under} {c} r m {slots = slots} {A = A} ready e e′ x {store′} {c′} k = rw (k .0, k .1 .is) (go (branch bs con) refl)
     where
       w : ℕ
       w = word (held hs s)
@@ -390,7 +396,13 @@ module _ (file : File) (budget : ℕ) (bytes decl : List ℕ) (d : Declared file
       con = constructor-of store w
 
       b : ℕ
-      b = k .1 .0
+      b = k .1 .at
+
+      c₂ : Top
+      c₂ = top (c .state) (k .1 .work)
+
+      r₂ : Rep file budget bytes decl store c₂ (S.LK p s bs) hs under
+      r₂ = keeps-represents file bytes r (k .1 .keeps .long) (k .1 .keeps .low)
 
       slot-word : (getD (c .work) (length under * 32 + s) 0 ≡ w) × Shape store w
       slot-word =
@@ -403,7 +415,7 @@ module _ (file : File) (budget : ℕ) (bytes decl : List ℕ) (d : Declared file
       same = rw (r .here, r .depth, e) (slot-word .0)
 
       found : ((branch bs con ≡ none) × (b ≡ 0)) ⊎ Taken file bytes decl d (length hs) (λ c. 0) bs con b
-      found = found-branch file bytes decl d x refl (rw (same, con-same store w, r .here, e′) at (k .1 .1))
+      found = found-branch file bytes decl d x refl (rw (same, con-same store w, r .here, e′) at (k .1 .found))
 
       hs′ : List Held
       hs′ = hs
@@ -418,14 +430,14 @@ module _ (file : File) (budget : ℕ) (bytes decl : List ℕ) (d : Declared file
       most = omega arith
 
       opens : (u : Taken file bytes decl d (length hs) (λ c. 0) bs con b) → Shape store w
-          → After file bytes (c .state .most) store store (opOf bytes decl store c b 0) (M.next (state store (u .term) (hs′ ++ gs) under))
+          → After file bytes (c .state .most) store store (opOf decl store c₂ (named bytes c) b 0) (M.next (state store (u .term) (hs′ ++ gs) under))
       opens u (atom l y) =
           let st : Stands file bytes (length hs + (length (fields-of file con) + 0)) (u .term) (u .next) = u .stands in
           let fit = u .fits in
           let past = u .past in
           rw (same, con-same store w, ne-eqb b 0 (λ v. omega arith), l, y) (
-            lays file bytes c hs′ [] [] under store (u .term) b (c .state .frame .bound) (u .next) (r .depth) (r .deep) (r .bound ∙ sym long) (let few = r .few in omega (arith, long))
-                (r .words) (r .saved) (r .room) Pairs.none (u .here) (omega (arith, long, r .bound))
+            lays file bytes c₂ hs′ [] [] under store (u .term) b (c .state .frame .bound) (u .next) (r .depth) (r .deep) (r .bound ∙ sym long) (let few = r .few in omega (arith, long))
+                (r₂ .words) (r₂ .saved) (r₂ .room) Pairs.none (u .here) (omega (arith, long, r .bound))
                 (subst (λ n. Stands file bytes n (u .term) (u .next)) (let v : length hs + 0 ≡ length hs′ + 0 = omega (arith, long) in v) (rw y at st)),
             refl,
             sym most,
@@ -442,16 +454,16 @@ module _ (file : File) (budget : ℕ) (bytes decl : List ℕ) (d : Declared file
           let ps : Pairs (fields looked store (cell w) 1 (f ∷ fs)) ws = looked-pairs store (cell w) 1 ((w - 65536) * 5 + 1) (f ∷ fs) (omega arith) in
           let zz = pairs-length ps in
           rw (same, con-same store w, ne-eqb b 0 (λ v. omega arith), l, y, ar) (
-            lays file bytes c hs′ (fields looked store (cell w) 1 (f ∷ fs)) ws under store (u .term) b
+            lays file bytes c₂ hs′ (fields looked store (cell w) 1 (f ∷ fs)) ws under store (u .term) b
                 (c .state .frame .bound + suc (length fs) + 0) (u .next) (r .depth) (r .deep) (r .bound ∙ sym long) (omega (arith, n, zz))
-                (r .words) (r .saved) (r .room) ps (u .here) (omega (arith, r .bound, n, zz))
+                (r₂ .words) (r₂ .saved) (r₂ .room) ps (u .here) (omega (arith, r .bound, n, zz))
                 (subst (λ n. Stands file bytes n (u .term) (u .next)) (omega (arith, n, zz)) (rw y at st)),
             refl,
             sym most,
           )
 
       go : (o : Option Term) → branch bs con ≡ o
-          → After file bytes (c .state .most) store store (opOf bytes decl store c b 0) (elim o as (λ _. Step) [ none ↦ M.stuck 31 p | some t ↦ M.next (state store t (hs′ ++ gs) under) ])
+          → After file bytes (c .state .most) store store (opOf decl store c₂ (named bytes c) b 0) (elim o as (λ _. Step) [ none ↦ M.stuck 31 p | some t ↦ M.next (state store t (hs′ ++ gs) under) ])
       go none y =
           elim found [
             | inl v ↦ rw (v .1) (refl, refl, refl, r .here, refl)
@@ -461,5 +473,5 @@ module _ (file : File) (budget : ℕ) (bytes decl : List ℕ) (d : Declared file
           elim found [
             | inl v ↦ let t = v .0 in let z : _≡_ {A = ℕ} 0 1 = cc in absurd (omega arith)
             | inr v ↦ let i = v .is in let z : v .term ≡ t = cc in
-                subst (λ t. After file bytes (c .state .most) store store (opOf bytes decl store c b 0) (M.next (state store t (hs′ ++ gs) under))) z (opens v (slot-word .1))
+                subst (λ t. After file bytes (c .state .most) store store (opOf decl store c₂ (named bytes c) b 0) (M.next (state store t (hs′ ++ gs) under))) z (opens v (slot-word .1))
           ]

@@ -5,12 +5,12 @@ use mathlib.Core.Bool.{Bool, true, false}
 use mathlib.Core.Path.{_≡_, refl, sym, ap, _∙_, subst}
 use mathlib.Core.Logic.{_⊎_, inl, inr}
 use native.Mathlib.Omega.{arith}
-use lib.ListN.{length, getD, set, length-set}
+use lib.ListN.{length, getD, set, length-set, List·getD-eq-default}
 use lib.Seq.{getD-set-same, getD-set-other}
-use Rattle.machine.specs.Layout.{Top, top, going, laid, words}
+use Rattle.machine.specs.Layout.{Top, top, going, laid, words, Low}
 use Rattle.machine.specs.Represents.{Agrees, Words, Saved, Represents}
 use Rattle.machine.proofs.frame.Laid.{laid-length, laid-before, laid-after, laid-at}
-use Rattle.machine.proofs.step.Words.{words-make, words-keep, words-more, saved-keep, words-give-up}
+use Rattle.machine.proofs.step.Words.{side, words-make, words-keep, words-more, saved-keep, words-give-up}
 use Rattle.meaning.specs.Syntax.{Sort, Mode, Term, Constructor, File}
 use Rattle.meaning.specs.Outcome.{ok}
 use Rattle.meaning.specs.Ownership.{Kind, Slots, Want, take, pass, member}
@@ -21,7 +21,7 @@ use Rattle.theory.proofs.Rep.{Holds, Match}
 use Rattle.theory.proofs.Handing.{at-kind, owned-taken}
 use Rattle.theory.proofs.Taking.{take-inv, steps-ok, refused}
 use Rattle.theory.proofs.Wants.{took-number, took-lent, took-owned}
-use Rattle.standing.specs.Stands.{Stands}
+use Rattle.standing.specs.Stands.{Listed, Stands}
 
 -- words that are what is held
 pub data Pairs : List Held → List ℕ → Type 0 where
@@ -99,6 +99,51 @@ module _ (cs : List Constructor) (store : Store) (A : List ℕ) (env : List Valu
       let r = argued-pairs ms ss (s ∷ earlier) (suc p) (set slots s (used-up (u .0 .slot))) slots′ (give-up hs s) (o .rest) (rw (u .1) (a .2))
       (o .others (taken (held hs s)) (owned-taken cs store (o .holds))) (words-give-up work base hs s w) in
       (both q (r .0), λ k. sym q k ∷ r .1 k)
+
+-- a slot that holds something is bound
+holds-spent : {cs : List Constructor} {store : Store} {A F : List ℕ} {k : Kind} {h : Held} {v : Value} → Holds cs store A k h v F → h ≡ Held.spent → ⊥
+holds-spent Holds.number e = let z : _≡_ {A = ℕ} 0 1 = cc in omega arith
+holds-spent (Holds.lent t i) e = let z : _≡_ {A = ℕ} 0 1 = cc in omega arith
+holds-spent (Holds.owned t) e = let z : _≡_ {A = ℕ} 0 1 = cc in omega arith
+holds-spent (Holds.credit b) e = let z : _≡_ {A = ℕ} 0 1 = cc in omega arith
+
+bound-slot : {cs : List Constructor} {store : Store} {A F : List ℕ} {k : Kind} {v : Value} (hs : List Held) (s : ℕ) → Holds cs store A k (held hs s) v F → s < length hs
+bound-slot hs s g = elim (side s (length hs)) [ inl l ↦ l | inr l ↦ absurd (holds-spent g (List·getD-eq-default hs Held.spent l)) ]
+
+-- an argument list names bound slots
+abbrev pub All-below : ℕ → List ℕ → Type 0
+All-below n [] = Unit {0}
+All-below n (s ∷ ss) = (s < n) × All-below n ss
+
+pub listed-low : (bytes : List ℕ) (p : ℕ) (ss : List ℕ) (n : ℕ) → Listed bytes p ss → All-below n ss → n ≤ 32 → Low bytes p (length ss)
+listed-low bytes p [] n l b h j i = absurd (omega arith)
+listed-low bytes p (s ∷ ss) n l b h zero i = let e : p + 0 ≡ p = omega arith in rw (e, l .0) (omega (arith, b .0))
+listed-low bytes p (s ∷ ss) n l b h (suc j) i =
+    let e : p + suc j ≡ p + 1 + j = omega arith in rw e (listed-low bytes (p + 1) ss n (l .1) (b .1) h j (omega arith))
+
+module _ (cs : List Constructor) (store : Store) (A : List ℕ) (env : List Value) where
+  pub argued-below : (ms : List Mode) (ss earlier : List ℕ) (p : ℕ) (slots slots′ : Slots) (hs : List Held) (F : List ℕ)
+      → pass earlier ms ss p slots ≡ ok slots′ → Match cs store A slots hs env F → All-below (length hs) ss
+  unfolding pass
+  argued-below [] [] earlier p slots slots′ hs F e m = tt
+  argued-below [] (s ∷ ss) earlier p slots slots′ hs F e m = absurd (refused e)
+  argued-below (m ∷ ms) [] earlier p slots slots′ hs F e k = absurd (refused e)
+  argued-below (Mode.number ∷ ms) (s ∷ ss) earlier p slots slots′ hs F e m =
+      let a = steps-ok (take false Want.number s p slots) (λ x. pass (s ∷ earlier) ms ss (suc p) x) e in
+      let t = took-number (take-inv false Want.number s p slots (a .0) (a .1)) in
+      (bound-slot hs s (at-kind cs store (t .0) m .holds), argued-below ms ss (s ∷ earlier) (suc p) slots slots′ hs F (rw (t .1) (a .2)) m)
+  argued-below (Mode.lent ∷ ms) (s ∷ ss) earlier p slots slots′ hs F e m =
+      let a = steps-ok (take false Want.lent s p slots) (λ x. pass (s ∷ earlier) ms ss (suc p) x) e in
+      let t = took-lent (take-inv false Want.lent s p slots (a .0) (a .1)) in
+      let q : s < length hs = elim (t .0) [ inl u ↦ bound-slot hs s (at-kind cs store u m .holds) | inr u ↦ bound-slot hs s (at-kind cs store u m .holds) ] in
+      (q, argued-below ms ss (s ∷ earlier) (suc p) slots slots′ hs F (rw (t .1) (a .2)) m)
+  argued-below (Mode.owned ∷ ms) (s ∷ ss) earlier p slots slots′ hs F e m =
+      let a = steps-ok (take (member s earlier) Want.owned s p slots) (λ x. pass (s ∷ earlier) ms ss (suc p) x) e in
+      let u = took-owned (take-inv (member s earlier) Want.owned s p slots (a .0) (a .1)) in
+      let o = at-kind cs store (u .0) m in
+      let r = argued-below ms ss (s ∷ earlier) (suc p) (set slots s (used-up (u .0 .slot))) slots′ (give-up hs s) (o .rest) (rw (u .1) (a .2))
+      (o .others (taken (held hs s)) (owned-taken cs store (o .holds))) in
+      (bound-slot hs s (o .holds), subst (λ n. All-below n ss) (length-set hs s (taken (held hs s))) r)
 
 append-length : (hs gs : List Held) → length (hs ++ gs) ≡ length hs + length gs
 append-length [] gs = let e : 0 + length gs ≡ length gs = omega arith in sym e

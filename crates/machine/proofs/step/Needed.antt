@@ -8,23 +8,23 @@ use native.Mathlib.Omega.{arith}
 use lib.ListN.{length, getD}
 use lib.Dec.{ltb}
 use borrow.Author.Tests.{ltb-true}
-use Rattle.machine.specs.Layout.{Top, slotIn, conOf}
+use Rattle.machine.specs.Layout.{Top, slotIn, conOf, Low}
 use Rattle.machine.specs.Represents.{Agrees, Represents, Fit, Saved, Waits}
-use Rattle.machine.specs.Skips.{Skips, SkipsAll, Found}
+use Rattle.machine.specs.Skips.{Skips, SkipsAll, Found, Known}
 use Rattle.machine.specs.Needs.{Room, NeedsAt, OpenNeeds, CallNeeds, MkNeeds}
-use Rattle.machine.specs.Steps.{Steps, StepsAt, Opens, creditOf}
-use Rattle.machine.proofs.step.Skipping.{Taken, found-branch, stands-skips, each-skips, skips-safe}
-use Rattle.machine.proofs.step.Laying.{held-owned, held-lent}
+use Rattle.machine.specs.Steps.{Steps, StepsAt, Opened, creditOf}
+use Rattle.machine.proofs.step.Skipping.{Taken, found-branch, stands-skips, each-skips, skips-safe, stands-ends, each-ends}
+use Rattle.machine.proofs.step.Laying.{held-owned, held-lent, All-below, listed-low, argued-below}
 use Rattle.machine.proofs.step.Frames.{Shape, atom, cell-of, owned-shape, lent-shape, con-same, credit-word}
 use Rattle.meaning.specs.Syntax.{Sort, Signature, Term, Branches, Constructor, File}
 use Rattle.meaning.specs.Syntax as S
-use Rattle.meaning.specs.Ownership.{Kind, Slots, Want, take, check, pass}
+use Rattle.meaning.specs.Ownership.{Kind, Slots, Want, take, check, pass, done, same-sort}
 use Rattle.meaning.specs.Plain.{Value, place-of}
 use Rattle.meaning.specs.Reading.{credits}
 use Rattle.meaning.specs.Machine.{Held, Frame, Store, held, word, state, cell, fields-of, function-of, credit-cell, constructor-of}
 use Rattle.theory.proofs.Rep.{Holds, Match}
 use Rattle.theory.proofs.Handing.{at-kind}
-use Rattle.theory.proofs.Taking.{take-inv, steps-ok}
+use Rattle.theory.proofs.Taking.{take-inv, steps-ok, require-then}
 use Rattle.theory.proofs.Wants.{took-credit, took-owned, took-looked}
 use Rattle.theory.proofs.Sim.{Ready, Accepted}
 use Rattle.standing.specs.Bytes.{byteAt, markAt, arityIn, paramsIn}
@@ -32,7 +32,7 @@ use Rattle.meaning.specs.Marks.{markOf, findMark, Mark}
 use Rattle.machine.proofs.step.Marked.{mark-is}
 use Rattle.machine.proofs.step.Words.{side}
 use Rattle.meaning.specs.Choice.{pick}
-use Rattle.standing.specs.Stands.{Stands, Each, count}
+use Rattle.standing.specs.Stands.{Listed, Stands, Each, count}
 use Rattle.standing.specs.Table.{Declared}
 
 module _ (file : File) (budget : ℕ) (bytes decl : List ℕ) (d : Declared file bytes decl) (fine : Accepted file budget) where
@@ -52,11 +52,14 @@ module _ (file : File) (budget : ℕ) (bytes decl : List ℕ) (d : Declared file
       rw (z, w .many) (w .few)
 
   calls : {store : Store} {c : Top} {t : Term} {hs : List Held} {under : List Frame} (r : Rep store c t hs under) (f : ℕ) (ss : List ℕ) → place-of t + 3 + length ss ≤ length bytes
-      → byteAt bytes (place-of t + 2) ≡ f → f < length (file .functions) → length ss ≡ length (function-of file f .parameters) → c .state .most ≤ 32 → CallNeeds bytes decl c
-  calls {c = c} {t} r f ss b e h i m =
+      → byteAt bytes (place-of t + 2) ≡ f → f < length (file .functions) → length ss ≡ length (function-of file f .parameters) → c .state .most ≤ 32
+      → Listed bytes (place-of t + 3) ss → All-below (length hs) ss → CallNeeds bytes decl c
+  calls {c = c} {t} {hs = hs} r f ss b e h i m g o =
       let q : byteAt bytes (c .state .frame .at + 2) ≡ f = ap (λ x. byteAt bytes (x + 2)) (r .here) ∙ e in
       let n : paramsIn decl (byteAt bytes (c .state .frame .at + 2)) ≡ length ss = ap (λ g. paramsIn decl g) q ∙ d .parameters f h ∙ sym i in
-      (room r 3 (omega arith), omega (arith, r .bound, r .few), omega (arith, q, d .functions), omega (arith, r .here, n), omega (arith, n, i, d .few f), d .size, m)
+      let low : Low bytes (c .state .frame .at + 3) (paramsIn decl (byteAt bytes (c .state .frame .at + 2))) =
+      subst (λ k. Low bytes (c .state .frame .at + 3) k) (sym n) (subst (λ x. Low bytes (x + 3) (length ss)) (sym (r .here)) (listed-low bytes (place-of t + 3) ss (length hs) g o (r .few))) in
+      (room r 3 (omega arith), omega (arith, r .bound, r .few), omega (arith, q, d .functions), omega (arith, r .here, n), omega (arith, n, i, d .few f), d .size, m, low)
 
   held-cell : {store : Store} {A F : List ℕ} {m : ℕ} {h : Held} {v : Value} → Holds (file .constructors) store A (Kind.credit m) h v F → 5 * credit-cell h + 5 ≤ length store
   held-cell (Holds.credit b) = b
@@ -79,12 +82,14 @@ module _ (file : File) (budget : ℕ) (bytes decl : List ℕ) (d : Declared file
   opening : {store : Store} {c : Top} {t : Term} {hs : List Held} {under : List Frame} (r : Rep store c t hs under) {bs : Branches} {nx : ℕ} (s credit : ℕ) (extra : Constructor → ℕ)
       → place-of t + 4 ≤ length bytes → byteAt bytes (place-of t + 2) ≡ s → byteAt bytes (place-of t + 3) ≡ count bs → Each file bytes (length hs) extra (place-of t + 4) bs nx
       → getD (c .work) (length under * 32 + s) 0 ≡ word (held hs s) → Shape file budget bytes decl d store (word (held hs s))
-      → ((x : Sort) (xs : Constructor) → credit ≡ extra (x ∷ xs)) → OpenNeeds bytes decl store c credit
-  opening {store} {c} {t} {hs} {under} r {bs} {nx} s credit extra b e f x w shape y =
+      → ((x : Sort) (xs : Constructor) → credit ≡ extra (x ∷ xs)) → Known bytes decl (c .work) → OpenNeeds bytes decl store c credit
+  opening {store} {c} {t} {hs} {under} r {bs} {nx} s credit extra b e f x w shape y known =
       record {
         room = room r 4 b;
         bound = omega (arith, r .bound, r .few);
+        ends = (known, d .size, r .room);
         next = nx;
+        small = omega (arith, each-ends file bytes decl d b x, d .size);
         branches = rw (r .here, f) (each-skips file bytes decl d x);
         cell = rw same (big shape);
         opens = λ b found h. rw same (opens b (rw (same, r .here, f) at found) h shape);
@@ -117,36 +122,43 @@ module _ (file : File) (budget : ℕ) (bytes decl : List ℕ) (d : Declared file
               let k : extra (getD (file .constructors) (conOf store (word (held hs s))) []) ≡ credit = ap extra j ∙ sym (y g gs) in
               omega (arith, v .fits, a, k, r .bound)
 
-  pub needed : (t : Term) (hs : List Held) (store : Store) (under : List Frame) {c : Top} {nx : ℕ} (r : Rep store c t hs under) → c .state .most ≤ 32
+  pub needed : (t : Term) (hs : List Held) (store : Store) (under : List Frame) {c : Top} {nx : ℕ} (r : Rep store c t hs under) → c .state .most ≤ 32 → Known bytes decl (c .work)
       → {result : Sort} {slots : Slots} {env : List Value} {F A : List ℕ} → Ready file budget t result slots hs env store F A → Stands file bytes (length hs) t nx
       → NeedsAt (markOf (markAt bytes (place-of t))) bytes decl store c
   unfolding markOf check
-  needed (S.GV p s) hs store under r m ready (Stands.GV a b e n) = rw a (room r 3 b, waiting under r)
-  needed (S.AT p k t) hs store under r m ready (Stands.AT a b e l q x) = rw a (room r 3 b, omega (arith, r .bound))
-  needed (S.NU p k t) hs store under r m ready (Stands.NU a b e l q x) = rw a (room r 4 b, omega (arith, r .bound))
-  needed (S.AR p o x y t) hs store under r m ready (Stands.AR a b e f g l q z) = rw a (room r 5 b, omega (arith, r .bound))
-  needed (S.IF p s t u) hs store under {c} r m ready (Stands.IF {second = second} a b e q x f y) =
-      rw a (room r 3 b, (second, subst (λ z. Skips bytes decl z second) (q ∙ ap (λ z. z + 3) (sym (r .here))) (stands-skips file bytes decl d x)))
-  needed (S.TL p f ss) hs store under r m ready (Stands.TL a b e g h i n) = rw a (calls r f ss b e h i m)
-  needed (S.CL p f ss t) hs store under r m ready (Stands.CL a b e g h i l q x) = rw a (calls r f ss b e h i m)
-  needed (S.MK p k x ss t) hs store under r m ready (Stands.MK a b e f g h i l q y) = rw a (makes r ready b e f h i l)
-  needed (S.OP p s bs) hs store under r m {slots = slots} ready (Stands.OP a b e f x) =
+  needed (S.GV p s) hs store under r m k ready (Stands.GV a b e n) = rw a (room r 3 b, waiting under r)
+  needed (S.AT p n t) hs store under r m k ready (Stands.AT a b e l q x) = rw a (room r 3 b, omega (arith, r .bound))
+  needed (S.NU p n t) hs store under r m k ready (Stands.NU a b e l q x) = rw a (room r 4 b, omega (arith, r .bound))
+  needed (S.AR p o x y t) hs store under r m k ready (Stands.AR a b e f g l q z) = rw a (room r 5 b, omega (arith, r .bound))
+  needed (S.IF p s t u) hs store under {c} r m k ready (Stands.IF {second = second} a b e q x f y) =
+      rw a (room r 3 b, (k, d .size, r .room), (second, subst (λ z. Skips bytes decl z second) (q ∙ ap (λ z. z + 3) (sym (r .here))) (stands-skips file bytes decl d x), omega (arith, stands-ends file bytes decl d x, d .size)))
+  needed (S.TL p f ss) hs store under r m k {result} {slots} {env} {F} {A} ready (Stands.TL a b e g h i n) =
+      let v = require-then 8 (p + 2) (same-sort (function-of file f .result) result) _ (ready .checked) in
+      let u = steps-ok (pass [] (function-of file f .parameters) ss (p + 3) slots) (λ x. done p x) (v .1) in
+      let o = argued-below (file .constructors) store A env (function-of file f .parameters) ss [] (p + 3) slots (u .0) hs F (u .1) (ready .match) in
+      rw a (calls r f ss b e h i m g o)
+  needed (S.CL p f ss t) hs store under r m k {result} {slots} {env} {F} {A} ready (Stands.CL a b e g h i l q x) =
+      let u = steps-ok (pass [] (function-of file f .parameters) ss (p + 3) slots) _ (ready .checked) in
+      let o = argued-below (file .constructors) store A env (function-of file f .parameters) ss [] (p + 3) slots (u .0) hs F (u .1) (ready .match) in
+      rw a (calls r f ss b e h i m g o)
+  needed (S.MK p n x ss t) hs store under r m k ready (Stands.MK a b e f g h i l q y) = rw a (makes r ready b e f h i l)
+  needed (S.OP p s bs) hs store under r m k {slots = slots} ready (Stands.OP a b e f x) =
       let v = steps-ok (take false Want.owned s (p + 2) slots) _ (ready .checked) in
       let u = took-owned (take-inv false Want.owned s (p + 2) slots (v .0) (v .1)) in
       let o = at-kind (file .constructors) store (u .0) (ready .match) in
-      rw a (opening r s 1 credits b e f x (held-owned (o .holds) (r .words s)) (owned-shape file budget bytes decl d (o .holds)) (λ y ys. refl))
-  needed (S.LK p s bs) hs store under r m {slots = slots} ready (Stands.LK a b e f x) =
+      rw a (opening r s 1 credits b e f x (held-owned (o .holds) (r .words s)) (owned-shape file budget bytes decl d (o .holds)) (λ y ys. refl) k)
+  needed (S.LK p s bs) hs store under r m k {slots = slots} ready (Stands.LK a b e f x) =
       let v = steps-ok (take false Want.looked s (p + 2) slots) _ (ready .checked) in
       let u = took-looked (take-inv false Want.looked s (p + 2) slots (v .0) (v .1)) in
       let o = at-kind (file .constructors) store (u .0) (ready .match) in
-      rw a (opening r s 0 (λ c. 0) b e f x (held-lent (o .holds) (r .words s)) (lent-shape file budget bytes decl d (o .holds)) (λ y ys. refl))
+      rw a (opening r s 0 (λ c. 0) b e f x (held-lent (o .holds) (r .words s)) (lent-shape file budget bytes decl d (o .holds)) (λ y ys. refl) k)
 
 module _ {bytes decl store : List ℕ} {c : Top} (f : Fit bytes decl store c) where
   pub fit-needs : (k : Mark) → markOf (markAt bytes (c .state .frame .at)) ≡ k → NeedsAt k bytes decl store c
   fit-needs k q =
       let z = f .represents .same in
       let r : Represents (f .file) bytes (f .st .store) c (f .st) = subst (λ x. Represents (f .file) bytes x c (f .st)) z (f .represents) in
-      let n = needed (f .file) (f .budget) bytes decl (f .declared) (f .fine) (f .st .top .todo) (f .st .top .slots) (f .st .store) (f .st .under) r (f .high) (f .whole .ready) (r .stands) in
+      let n = needed (f .file) (f .budget) bytes decl (f .declared) (f .fine) (f .st .top .todo) (f .st .top .slots) (f .st .store) (f .st .under) r (f .high) (f .known) (f .whole .ready) (r .stands) in
       let g : markOf (markAt bytes (place-of (f .st .top .todo))) ≡ k = ap (λ x. markOf (markAt bytes x)) (sym (r .here)) ∙ q in
       subst (λ x. NeedsAt k bytes decl x c) (sym z) (subst (λ x. NeedsAt x bytes decl (f .st .store) c) g n)
 
@@ -169,7 +181,7 @@ module _ {bytes decl store store′ : List ℕ} {c c′ : Top} where
   pub steps-of : (k : Mark) → markOf (markAt bytes (c .state .frame .at)) ≡ k → StepsAt k bytes decl store c store′ c′ → Steps bytes decl store c store′ c′
   steps-of k e s = record { does = subst (λ n. StepsAt n bytes decl store c store′ c′) (sym e) s }
 
-  pub opens-of : {m : ℕ} → m ≡ findMark (markAt bytes (c .state .frame .at)) → 9 ≤ m → m < 11 → Opens bytes decl store (creditOf m) c store′ c′ → Steps bytes decl store c store′ c′
+  pub opens-of : {m : ℕ} → m ≡ findMark (markAt bytes (c .state .frame .at)) → 9 ≤ m → m < 11 → (store′ ≡ store) × Opened bytes decl store (creditOf m) c c′ → Steps bytes decl store c store′ c′
   unfolding creditOf pick
   opens-of {m} e a b s =
       elim (side m 10) [

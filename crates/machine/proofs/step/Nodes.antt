@@ -8,12 +8,12 @@ use native.Mathlib.Omega.{arith}
 use lib.ListN.{length, getD, set, length-set}
 use lib.Dec.{ltb, eqb}
 use borrow.Author.Tests.{ltb-true, ltb-false, eq-eqb, ne-eqb}
-use Rattle.machine.specs.Layout.{below, Top, top, going, bound, laid, gathered, words, slotIn, nuOf, atOf, arOf, gvOf}
+use Rattle.machine.specs.Layout.{below, Top, top, going, moved, bound, laid, gathered, words, slotIn, nuOf, atOf, arOf, gvOf}
 use Rattle.machine.specs.Represents.{Agrees, Words, Waits, Saved, Represents, Fit, After}
 use Rattle.machine.specs.Steps.{Steps, StepsAt}
 use Rattle.machine.specs.Skips.{Skips}
 use Rattle.machine.proofs.step.Skipping.{stands-skips, skips-one}
-use Rattle.machine.proofs.step.Words.{bound-represents}
+use Rattle.machine.proofs.step.Words.{bound-represents, keeps-represents}
 use Rattle.meaning.specs.Syntax.{Sort, Mode, Term, Branches, File}
 use Rattle.meaning.specs.Syntax as S
 use Rattle.meaning.specs.Outcome.{ok}
@@ -141,20 +141,20 @@ module _ (file : File) (budget : ℕ) (bytes decl : List ℕ) where
       → {store′ : Store} {c′ : Top} → StepsAt Mark.IF bytes decl store c store′ c′ → Goal (S.IF p s t u) hs store under c store′ c′
   unfolding step check
   if-sim {p} {s} {second} {t = t} {u} {hs} {store} {under} {c} d r m {slots = slots} ready e pt xt pu xu {store′} {c′} k =
-      subst (λ x. Goal (S.IF p s t u) hs store under c x c′) (sym (k .0)) (subst (λ x. Goal (S.IF p s t u) hs store under c store x) (sym made) (go (word (held hs s)) refl))
+      subst (λ x. Goal (S.IF p s t u) hs store under c x c′) (sym (k .0)) (subst (λ x. Goal (S.IF p s t u) hs store under c store x) (sym (k .1 .is)) (go (word (held hs s)) refl))
     where
       w : slotIn bytes (c .work) (c .state .frame .depth * 32) (c .state .frame .at + 2) ≡ word (held hs s)
       w =
           let a = steps-ok (take false Want.number s (p + 2) slots) _ (ready .checked) in
           rw (r .here, r .depth, e) (number-slot s (p + 2) slots (a .0) (a .1) (ready .match) (r .words s) .1)
 
-      made : c′ ≡ top (going (k .1 .at) (c .state .frame .depth) (c .state .frame .bound) (c .state .most)) (c .work)
-      made = λ i. top (k .1 .is i) (k .2 i)
+      r₂ : Rep store (top (c .state) (k .1 .work)) (S.IF p s t u) hs under
+      r₂ = keeps-represents file bytes r (k .1 .keeps .long) (k .1 .keeps .low)
 
       go : (n : ℕ) → word (held hs s) ≡ n
-          → After file bytes (c .state .most) store store (top (going (k .1 .at) (c .state .frame .depth) (c .state .frame .bound) (c .state .most)) (c .work))
+          → After file bytes (c .state .most) store store (top (moved (c .state) (k .1 .at)) (k .1 .work))
           (elim n as (λ _. Step) [ zero ↦ M.next (state store u hs under) | suc _ ↦ M.next (state store t hs under) ])
       go zero z =
-          moves r (k .1 .at)
+          moves r₂ (k .1 .at)
           (skips-one bytes decl (k .1 .second (w ∙ z)) (subst (λ x. Skips bytes decl x second) (pt ∙ ap (λ x. x + 3) (sym (r .here))) (stands-skips file bytes decl d xt)) ∙ sym pu) xu m
-      go (suc n) z = moves r (k .1 .at) (k .1 .first (λ y. omega (arith, w, z, y)) ∙ ap (λ x. x + 3) (r .here) ∙ sym pt) xt m
+      go (suc n) z = moves r₂ (k .1 .at) (k .1 .first (λ y. omega (arith, w, z, y)) ∙ ap (λ x. x + 3) (r .here) ∙ sym pt) xt m

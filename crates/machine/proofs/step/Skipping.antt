@@ -142,6 +142,24 @@ module _ (file : File) (bytes decl : List ℕ) (d : Declared file bytes decl) wh
     each-skips (Each.BR {second = second} a g b e h l q x y) =
         SkipsAll.more refl (subst (λ z. Skips bytes decl z second) (q ∙ ap (λ z. z + 3) (sym a)) (stands-skips x)) (each-skips y)
 
+  -- what stands ends within the file
+  mutual
+    pub stands-ends : {slots next : ℕ} {t : Term} → Stands file bytes slots t next → next ≤ length bytes
+    stands-ends (Stands.GV m b e n) = omega arith
+    stands-ends (Stands.AT m b e l q x) = stands-ends x
+    stands-ends (Stands.MK m b e f g h i l q x) = stands-ends x
+    stands-ends (Stands.CL m b e g h i l q x) = stands-ends x
+    stands-ends (Stands.TL m b e g h i n) = omega arith
+    stands-ends (Stands.OP m b e f x) = each-ends b x
+    stands-ends (Stands.LK m b e f x) = each-ends b x
+    stands-ends (Stands.NU m b e l q x) = stands-ends x
+    stands-ends (Stands.AR m b e f g l q x) = stands-ends x
+    stands-ends (Stands.IF m b e q x r y) = stands-ends y
+
+    pub each-ends : {slots at next : ℕ} {extra : Constructor → ℕ} {bs : Branches} → at ≤ length bytes → Each file bytes slots extra at bs next → next ≤ length bytes
+    each-ends h (Each.end e) = omega arith
+    each-ends h (Each.BR a g b e i l q x y) = each-ends (stands-ends x) y
+
   -- the branch that is found
   pub record Taken (slots : ℕ) (extra : Constructor → ℕ) (bs : Branches) (con r : ℕ) : Type 0 where
     pub term : Term

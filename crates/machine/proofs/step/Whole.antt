@@ -9,6 +9,7 @@ use Rattle.machine.specs.Represents.{Represents, After, Fit}
 use Rattle.machine.specs.Steps.{Steps, StepsAt}
 use Rattle.machine.proofs.step.Nodes.{nu-sim, at-sim, ar-sim, gv-sim, if-sim}
 use Rattle.machine.proofs.step.Frames.{tl-sim, cl-sim, mk-sim, op-sim, lk-sim}
+use Rattle.machine.proofs.step.Behind.{step-known}
 use Rattle.meaning.specs.Syntax.{Sort, Term, File}
 use Rattle.meaning.specs.Syntax as S
 use Rattle.meaning.specs.Plain.{Value}
@@ -81,4 +82,5 @@ module _ {bytes decl store : List ℕ} {c : Top} (f : Fit bytes decl store c) wh
         once = f .once;
         most = let z = a .2 in omega arith;
         high = omega (arith, a .2, a .0 .deep, f .high);
+        known = step-known f s;
       }

@@ -14,6 +14,7 @@ use Rattle.machine.specs.Layout.{Top, top, going, bound, laid, gathered,
 use Rattle.machine.specs.Represents.{Agrees, Words, Waits, Saved, Represents}
 use Rattle.meaning.specs.Syntax.{Mode, Term, File}
 use Rattle.meaning.specs.Plain.{place-of}
+use Rattle.meaning.specs.Machine as M
 use Rattle.meaning.specs.Machine.{Held, Frame, Store, held, word, taken, give-up, argued, without, state, write}
 use Rattle.standing.specs.Bytes.{byteAt}
 use Rattle.standing.specs.Stands.{Listed, Stands}
@@ -120,6 +121,26 @@ module _ (file : File) (bytes : List ℕ) where
         },
         saved-keep work work′ rest (omega arith) (λ q l. low q (omega arith)) (λ q a l. high q a (omega arith)) (s .1),
       )
+
+  -- the same state, in a work area with the frames' words
+  pub keeps-represents : {store : Store} {c : Top} {st : M.State} {work : List ℕ} → Represents file bytes store c st → length work ≡ length (c .work)
+      → ((q : ℕ) → q < 1088 → getD work q 0 ≡ getD (c .work) q 0) → Represents file bytes store (top (c .state) work) st
+  keeps-represents {store} {c} {st} {work} r l low =
+      let few = r .few in
+      let deep = r .deep in
+      record {
+        same = r .same;
+        here = r .here;
+        next = r .next;
+        stands = r .stands;
+        depth = r .depth;
+        deep = r .deep;
+        bound = r .bound;
+        few = r .few;
+        words = words-keep (c .work) work (length (st .under) * 32) (st .top .slots) (r .words) (λ i m. low (length (st .under) * 32 + i) (omega arith));
+        saved = saved-keep (c .work) work (st .under) (r .deep) (λ q m. low q (omega arith)) (λ q n m. low q (omega arith)) (r .saved);
+        room = omega (arith, l, r .room);
+      }
 
   -- a word bound to the next slot
   pub bound-represents : (c : Top) (hs : List Held) (under : List Frame) (store : Store) (t : Term) (h : Held) (v next nx : ℕ)

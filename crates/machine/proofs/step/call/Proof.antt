@@ -6,19 +6,19 @@ use Rattle.machine.proofs.step.call.Reads as reads
 use Rattle.machine.proofs.step.call.Lts as lts
 use Rattle.machine.proofs.frame.byte.Reads as byte-reads
 use Rattle.machine.proofs.frame.finish.Reads as finish-reads
-use Rattle.machine.proofs.frame.gather.Reads as gather-reads
-use Rattle.machine.proofs.frame.lay.Reads as lay-reads
+use Rattle.machine.proofs.frame.hand_over.Reads as hand-over-reads
 use Rattle.machine.proofs.step.body.Reads as body-reads
 use Rattle.machine.proofs.step.larger.Reads as larger-reads
 use Rattle.machine.proofs.step.params.Reads as params-reads
 use native.Mathlib.Omega.{arith}
 use mathlib.Core.Path.{_≡_, refl, sym, ap, _∙_}
+use Prim.Native.Nat.{_+_, _*_}
 use lib.ListN.{length-set}
 use borrow.Author.Tests.{le-leb, lt-leb}
 use Rattle.machine.specs.Layout.{clOf}
 use Rattle.meaning.specs.Choice.{pick}
 use Rattle.standing.specs.Bytes.{paramsIn, byteAt}
-use Rattle.machine.proofs.frame.Laid.{gathered-laid}
+use Rattle.machine.proofs.frame.Laid.{gathered-above}
 
 sub-if1 : tie.Need-sub-if1
 sub-if1 c = search needs
@@ -41,12 +41,6 @@ byte-requires c κs = search needs
 
 params-requires : tie.Need-params-requires
 params-requires c κs = search needs
-
-add-gather : tie.Need-add-gather
-add-gather c = search needs
-
-gather-requires : tie.Need-gather-requires
-gather-requires c κs = let e = c .before .params .ensures .0 ∙ ap (λ g. paramsIn (c .before .before .before .before .before .before .args .decl .now) g) (c .before .before .byte .ensures .0) in (omega (arith, e), omega arith, omega (arith, e))
 
 mul-q : tie.Need-mul-q
 mul-q c = search needs
@@ -81,17 +75,20 @@ mul-work-2 c = search needs
 slice-write-work-2 : tie.Need-slice-write-work-2
 slice-write-work-2 c = simp length-set (omega arith)
 
-add-lay : tie.Need-add-lay
-add-lay c = search needs
+add-hand-over : tie.Need-add-hand-over
+add-hand-over c = search needs
 
-lay-requires : tie.Need-lay-requires
-lay-requires c κs = let e = c .before .before .before .before .params .ensures .0 ∙ ap (λ g. paramsIn (c .before .before .before .before .before .before .before .before .before .args .decl .now) g) (c .before .before .before .before .before .byte .ensures .0) in (simp length-set (omega (arith, e)), omega (arith, e))
+add-hand-over-2 : tie.Need-add-hand-over-2
+add-hand-over-2 c = search needs
+
+hand-over-requires : tie.Need-hand-over-requires
+hand-over-requires c κs = let e = c .before .before .params .ensures .0 ∙ ap (λ g. paramsIn (c .before .before .before .before .before .before .before .args .decl .now) g) (c .before .before .before .byte .ensures .0) in (omega (arith, e), omega arith, simp length-set (omega (arith, e)), rw e (c .before .before .before .before .before .before .before .pre .7))
 
 body-requires : tie.Need-body-requires
 body-requires c κs = search needs
 
-add-t16 : tie.Need-add-t16
-add-t16 c = search needs
+add-t15 : tie.Need-add-t15
+add-t15 c = search needs
 
 add-larger : tie.Need-add-larger
 add-larger c = search needs
@@ -100,11 +97,11 @@ larger-requires : tie.Need-larger-requires
 larger-requires c κs = search needs
 
 same-length : tie.Need-same-length
-same-length c = c .before .before .before .before .lay .kept .0 ∙ simp length-set
+same-length c = c .before .before .before .before .hand-over .kept .1 .0 ∙ simp length-set
 
 returns-2 : tie.Need-returns-2
 unfolding clOf pick
-returns-2 c = rw (lt-leb _ _ (c .before .before .before .before .before .before .before .before .before .before .before .if1 .left), c .before .body .ensures, c .larger .ensures, c .before .before .before .before .lay .ensures, c .before .before .before .before .before .before .before .gather .ensures, c .before .before .before .before .before .before .before .before .before .params .ensures .0, c .before .before .before .before .before .before .before .before .before .before .byte .ensures .0, gathered-laid _ _ _ _ _ (c .before .before .before .before .before .before .before .before .before .before .before .before .before .before .pre .4))
+returns-2 c = rw (lt-leb _ _ (c .before .before .before .before .before .before .before .before .before .if1 .left), c .before .body .ensures, c .larger .ensures, c .before .before .before .before .hand-over .ensures, c .before .before .before .before .before .before .before .params .ensures .0, c .before .before .before .before .before .before .before .before .byte .ensures .0, gathered-above (c .before .before .before .before .before .before .before .before .before .before .before .before .args .file .now) (c .before .before .before .before .before .before .before .before .before .before .before .before .args .work .now) (c .before .before .before .before .before .before .before .before .before .before .before .before .args .s .frame .depth * 32) (c .before .before .before .before .before .before .before .before .before .before .before .before .args .s .frame .at + 3) (paramsIn (c .before .before .before .before .before .before .before .before .before .before .before .before .args .decl .now) (byteAt (c .before .before .before .before .before .before .before .before .before .before .before .before .args .file .now) (c .before .before .before .before .before .before .before .before .before .before .before .before .args .s .frame .at + 2))) (1024 + c .before .before .before .before .before .before .before .before .before .before .before .before .args .s .frame .depth * 2) (c .before .before .before .before .before .before .before .before .before .before .before .before .args .s .frame .at + 3 + (paramsIn (c .before .before .before .before .before .before .before .before .before .before .before .before .args .decl .now) (byteAt (c .before .before .before .before .before .before .before .before .before .before .before .before .args .file .now) (c .before .before .before .before .before .before .before .before .before .before .before .before .args .s .frame .at + 2)))) (1024 + c .before .before .before .before .before .before .before .before .before .before .before .before .args .s .frame .depth * 2 + 1) (c .before .before .before .before .before .before .before .before .before .before .before .before .args .s .frame .bound) (omega arith) (omega arith) (c .before .before .before .before .before .before .before .before .before .before .before .before .pre .7))
 
 pub call-spec : {M : Type 1} → statement M
 call-spec =
@@ -117,8 +114,6 @@ call-spec =
     add-byte
     byte-requires
     params-requires
-    add-gather
-    gather-requires
     mul-q
     add-q
     add-work
@@ -130,10 +125,11 @@ call-spec =
     add-work-3
     mul-work-2
     slice-write-work-2
-    add-lay
-    lay-requires
+    add-hand-over
+    add-hand-over-2
+    hand-over-requires
     body-requires
-    add-t16
+    add-t15
     add-larger
     larger-requires
     same-length

@@ -104,7 +104,7 @@ same-length-9 : tie.Need-same-length-9
 same-length-9 c = search needs
 
 returns-8 : tie.Need-returns-8
-returns-8 c = steps-of Mark.IF (mark-is (markAt (c .before .before .before .before .before .before .before .args .file .now) (c .before .before .before .before .before .before .before .args .s .frame .at)) (c .before .before .before .mark .ensures) (c .before .before .match .keys8)) (refl, c .choose .ensures, refl)
+returns-8 c = steps-of Mark.IF (mark-is (markAt (c .before .before .before .before .before .before .before .before .before .args .file .now) (c .before .before .before .before .before .before .before .before .before .args .s .frame .at)) (c .before .before .before .before .before .mark .ensures) (c .before .before .before .before .match .keys8)) (refl, c .before .before .choose .ensures)
 
 same-length-10 : tie.Need-same-length-10
 same-length-10 c = search needs

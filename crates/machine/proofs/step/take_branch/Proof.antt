@@ -12,9 +12,10 @@ use Rattle.machine.proofs.step.find_branch.Reads as find-branch-reads
 use Rattle.machine.proofs.step.opened.Reads as opened-reads
 use native.Mathlib.Omega.{arith}
 use Prim.Native.Nat.{_<_}
+use mathlib.Core.Path.{_≡_, refl, sym, ap, _∙_}
 use borrow.Author.Tests.{eq-eqb, ne-eqb}
-use Rattle.machine.specs.Layout.{opOf}
 use Rattle.meaning.specs.Choice.{pick}
+use Rattle.machine.specs.Layout.{opOf}
 
 mul-slot : tie.Need-mul-slot
 mul-slot c = search needs
@@ -38,7 +39,7 @@ byte-requires : tie.Need-byte-requires
 byte-requires c κs = search needs
 
 find-branch-requires : tie.Need-find-branch-requires
-find-branch-requires c κs = (c .before .before .before .before .before .before .before .before .pre .0 .next, rw (c .byte .ensures .0) (c .before .before .before .before .before .before .before .before .pre .0 .branches))
+find-branch-requires c κs = (c .before .before .before .before .before .before .before .before .before .pre .0 .ends, (c .before .before .before .before .before .before .before .before .before .pre .0 .next, rw (c .byte .ensures .0) (c .before .before .before .before .before .before .before .before .before .pre .0 .branches), c .before .before .before .before .before .before .before .before .before .pre .0 .small))
 
 finish-requires : tie.Need-finish-requires
 finish-requires c κs = search needs
@@ -48,17 +49,17 @@ same-length c = search needs
 
 returns : tie.Need-returns
 unfolding opOf pick
-returns c = (c .before .before .find-branch .result, rw (c .before .before .before .before .constructor .ensures, c .before .before .before .before .before .slot .ensures, c .before .before .before .byte .ensures .0) at (c .before .before .find-branch .ensures), rw (eq-eqb _ _ (c .before .if1 .taken), c .finish .ensures))
+returns c = record { at = c .before .before .before .before .find-branch .result; found = rw (c .before .before .before .before .before .before .before .constructor .ensures, c .before .before .before .before .before .before .before .before .slot .ensures, c .before .before .before .before .before .byte .ensures .0) at (c .before .before .before .before .find-branch .ensures .0); work = _; keeps = c .before .before .before .before .find-branch .ensures .1; is = rw (eq-eqb _ _ (c .before .if1 .taken), c .finish .ensures) }
 
 opened-requires : tie.Need-opened-requires
-opened-requires c κs = let z : 0 < c .before .before .find-branch .result = omega arith in let q = c .before .before .before .before .before .before .before .before .before .before .before .pre .0 .opens _ (rw (c .before .before .before .before .constructor .ensures, c .before .before .before .before .before .slot .ensures, c .before .before .before .byte .ensures .0) at (c .before .before .find-branch .ensures)) z in (c .before .before .before .before .before .before .before .before .before .before .before .pre .0 .room .1, c .before .before .before .before .before .before .before .before .before .before .before .pre .0 .room .2, rw (c .before .before .before .before .constructor .ensures, c .before .before .before .before .before .slot .ensures) (q .0), rw (c .before .before .before .before .constructor .ensures, c .before .before .before .before .before .slot .ensures) (q .1), rw (c .before .before .before .before .before .slot .ensures) (c .before .before .before .before .before .before .before .before .before .before .before .pre .0 .cell), rw (c .before .before .before .before .constructor .ensures, c .before .before .before .before .before .slot .ensures) (q .2), c .before .before .before .before .before .before .before .before .before .before .before .pre .1)
+opened-requires c κs = let z : 0 < c .before .before .before .before .find-branch .result = omega arith in let q = c .before .before .before .before .before .before .before .before .before .before .before .before .before .before .pre .0 .opens _ (rw (c .before .before .before .before .before .before .before .constructor .ensures, c .before .before .before .before .before .before .before .before .slot .ensures, c .before .before .before .before .before .byte .ensures .0) at (c .before .before .before .before .find-branch .ensures .0)) z in (c .before .before .before .before .before .before .before .before .before .before .before .before .before .before .pre .0 .room .1, omega (arith, c .before .before .before .before .before .before .before .before .before .before .before .before .before .before .pre .0 .room .2, c .before .before .before .before .find-branch .ensures .1 .long), rw (c .before .before .before .before .before .before .before .constructor .ensures, c .before .before .before .before .before .before .before .before .slot .ensures) (q .0), rw (c .before .before .before .before .before .before .before .constructor .ensures, c .before .before .before .before .before .before .before .before .slot .ensures) (q .1), rw (c .before .before .before .before .before .before .before .before .slot .ensures) (c .before .before .before .before .before .before .before .before .before .before .before .before .before .before .pre .0 .cell), rw (c .before .before .before .before .before .before .before .constructor .ensures, c .before .before .before .before .before .before .before .before .slot .ensures) (q .2), c .before .before .before .before .before .before .before .before .before .before .before .before .before .before .pre .1)
 
 same-length-2 : tie.Need-same-length-2
 same-length-2 c = search needs
 
 returns-2 : tie.Need-returns-2
 unfolding opOf pick
-returns-2 c = (c .before .before .before .before .before .find-branch .result, rw (c .before .before .before .before .before .before .before .constructor .ensures, c .before .before .before .before .before .before .before .before .slot .ensures, c .before .before .before .before .before .before .byte .ensures .0) at (c .before .before .before .before .before .find-branch .ensures), rw (ne-eqb _ _ (c .before .before .before .before .if1 .left), c .before .before .opened .ensures, c .before .before .before .before .before .before .before .constructor .ensures, c .before .before .before .before .before .before .before .before .slot .ensures))
+returns-2 c = record { at = c .before .before .before .before .before .before .before .find-branch .result; found = rw (c .before .before .before .before .before .before .before .before .before .before .constructor .ensures, c .before .before .before .before .before .before .before .before .before .before .before .slot .ensures, c .before .before .before .before .before .before .before .before .byte .ensures .0) at (c .before .before .before .before .before .before .before .find-branch .ensures .0); work = _; keeps = c .before .before .before .before .before .before .before .find-branch .ensures .1; is = rw (ne-eqb _ _ (c .before .before .before .before .if1 .left), c .before .before .opened .ensures, c .before .before .before .before .before .before .before .before .before .before .constructor .ensures, c .before .before .before .before .before .before .before .before .before .before .before .slot .ensures) }
 
 pub take-branch-spec : {M : Type 1} → statement M
 take-branch-spec =
