@@ -144,6 +144,14 @@ module _ (f : List ℕ) {j : Judged} (e : j ≡ judgedOf f) where
           let a : j ≡ refusal m p = e ∙ ap judged q in
           (λ i. verdict.Refused (a i .number) (a i .place)) ∙ told-refused f m p q
 
+  pub judged-refuses : (j .number ≡ 0 → ⊥) → accepted f ≡ refuse (j .number) (j .place)
+  unfolding judgedOf
+  judged-refuses n = go (accepted f) refl
+    where
+      go : (o : Outcome File) → accepted f ≡ o → accepted f ≡ refuse (j .number) (j .place)
+      go (ok file) q = absurd (n (ap (λ x. x .number) (e ∙ ap judged q)))
+      go (refuse m p) q = let a : refusal m p ≡ j = sym (e ∙ ap judged q) in q ∙ (λ i. refuse (a i .number) (a i .place))
+
   -- the tree of an accepted file
   pub record Accepts : Type 0 where
     pub file : File

@@ -1,0 +1,2 @@
+-- The node file of the machine's proofs.
+pub mod Running

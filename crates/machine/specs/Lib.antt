@@ -5,3 +5,4 @@ pub mod Skips
 pub mod Needs
 pub mod Represents
 pub mod Steps
+pub mod Running

@@ -1,0 +1,195 @@
+-- What the pieces of `run` come to together: what was judged, the sizes, the start and the steps give `runOf`. Assumes nothing.
+use Prim.Native.Nat.{ℕ, zero, suc, _%_, _≤_, _<_}
+use mathlib.Core.Bool.{Bool, true, false}
+use mathlib.Core.List.{List, _++_}
+use mathlib.Core.Path.{_≡_, refl, sym, ap, _∙_, subst}
+use mathlib.Core.Logic.{_⊎_, inl, inr, ⊎-elim}
+use native.Mathlib.Omega.{arith}
+use lib.ListN.{length, drop, getD, replicate, length-replicate}
+use lib.Seq.{drop-append-seam}
+use lib.Dec.{eqb, ltb, leb}
+use borrow.Author.Tests.{eqb-true, eqb-false, ltb-true, ltb-false, leb-true, leb-false, eq-eqb, ne-eqb}
+use Rattle.meaning.specs.Choice.{pick}
+use Rattle.meaning.specs.declared.Answer.{Answer}
+use Rattle.meaning.specs.Syntax.{File}
+use Rattle.meaning.specs.Outcome.{Outcome, ok, refuse}
+use Rattle.meaning.specs.Verdict.{accepted}
+use Rattle.meaning.specs.Machine.{Store, function-of, run}
+use Rattle.meaning.specs.InPlace.{begins}
+use Rattle.meaning.specs.Start.{start, budget-of}
+use Rattle.meaning.specs.Answers.{wiped, ended, runOf}
+use Rattle.theory.proofs.Taking.{refused}
+use Rattle.theory.proofs.Started.{accepted-started}
+use Rattle.theory.proofs.StartExact.{Unfit, Miscounted, start-20, start-21, start-answers}
+use Rattle.theory.proofs.Running.{refusal, refused-file, refused-size, refused-start, executed}
+use Rattle.standing.specs.Bytes.{paramsIn}
+use Rattle.standing.specs.Table.{Declared}
+use Rattle.machine.specs.declared.step.Ran.{Ran}
+use Rattle.machine.specs.StartArea.{outcome}
+use Rattle.machine.specs.Represents.{Begun}
+use Rattle.machine.specs.Steps.{answerOf}
+use Rattle.checker.specs.declared.Judged.{Judged}
+use Rattle.checker.specs.Judging.{judgedOf}
+use Rattle.checker.proofs.Joining.{Accepts, judged-refuses, judged-accepts, accepts-declared}
+use Rattle.machine.specs.Running.{unfitOf, Opened, steppedBy}
+
+-- a list wiped twice, and what lies behind
+drop-wiped : (n : ℕ) (l : List ℕ) → drop n (wiped n l) ≡ drop n l
+unfolding wiped
+drop-wiped n l =
+    let zeros : List ℕ = replicate n 0 in
+    let e : length zeros ≡ n = length-replicate n 0 in
+    subst (λ k. drop k (zeros ++ drop n l) ≡ drop n l) e (drop-append-seam zeros (drop n l))
+
+zeros-at : (n q : ℕ) (rest : List ℕ) → q < n → getD (replicate n 0 ++ rest) q 0 ≡ 0
+zeros-at zero q rest l = absurd (omega arith)
+zeros-at (suc n) zero rest l = refl
+zeros-at (suc n) (suc q) rest l = zeros-at n q rest (omega arith)
+
+wiped-at : (n q : ℕ) (l : List ℕ) → q < n → getD (wiped n l) q 0 ≡ 0
+unfolding wiped
+wiped-at n q l h = zeros-at n q (drop n l) h
+
+wiped-alike : (n : ℕ) (a b : List ℕ) → drop n a ≡ drop n b → wiped n a ≡ wiped n b
+unfolding wiped
+wiped-alike n a b e = ap (λ d. replicate n 0 ++ d) e
+
+outcome-none : (n : ℕ) → n ≡ 0 → outcome n ≡ ok tt
+unfolding outcome pick
+outcome-none n e = rw (eq-eqb n 0 e)
+
+outcome-some : (n : ℕ) → (n ≡ 0 → ⊥) → outcome n ≡ refuse n 0
+unfolding outcome pick
+outcome-some n e = rw (ne-eqb n 0 e)
+
+same-number : {n m p q : ℕ} → _≡_ {A = Outcome (Unit {0})} (refuse n p) (refuse m q) → n ≡ m
+same-number e = cc
+
+module _ {bytes decl args store work : List ℕ} (o : Opened bytes decl args store work) where
+  abbrev Meant : ℕ → Type 0
+  Meant n = (tree : File) → Declared tree bytes decl → outcome n ≡ start tree (length work) args store
+
+  counted : length args ≡ length (function-of (o .file) 0 .parameters)
+  counted = o .many ∙ o .declared .parameters 0 (o .declared .first)
+
+  fits : Unfit (o .file) (length work) args store → ⊥
+  fits (inl h) = h (o .whole)
+  fits (inr (inl h)) = omega (arith, o .few)
+  fits (inr (inr h)) = omega (arith, o .room)
+
+  -- the start's answer is 22 to 24 where it refuses
+  late : (n : ℕ) → start (o .file) (length work) args store ≡ refuse n 0 → (22 ≤ n) × (n ≤ 24)
+  late n s =
+      ⊎-elim
+      (λ (h : start (o .file) (length work) args store ≡ ok tt). absurd (refused (sym s ∙ h)))
+      (λ (h : (m : ℕ) × (20 ≤ m) × (m ≤ 24) × (start (o .file) (length work) args store ≡ refuse m 0)).
+      let e = same-number (sym s ∙ h .3) in (later e (h .1), omega (arith, e, h .2)))
+      (start-answers (o .file) (length work) args store)
+    where
+      later : {m : ℕ} → n ≡ m → 20 ≤ m → 22 ≤ n
+      later {m} e l =
+          let a : n ≡ 20 → ⊥ = λ z. fits (start-20 (o .file) (length work) args store .0 (subst (λ k. start (o .file) (length work) args store ≡ refuse k 0) z s)) in
+          let b : n ≡ 21 → ⊥ = λ z. start-21 (o .file) (length work) args store .0 (subst (λ k. start (o .file) (length work) args store ≡ refuse k 0) z s) .1 counted in
+          omega (arith, a, b)
+
+  pub begin-refused : (budget : ℕ) {n : ℕ} {r : Answer} {w : List ℕ} → Meant n → (n ≡ 0 → ⊥) → r ≡ refusal n 0 → w ≡ wiped 4096 work
+      → ended r store w ≡ runOf bytes args store work budget
+  begin-refused budget {n} m z e q =
+      let s : start (o .file) (length work) args store ≡ refuse n 0 = sym (m (o .file) (o .declared)) ∙ outcome-some n z in
+      let b = late n s in
+      (λ i. ended (e i) store (q i)) ∙ refused-start bytes args store work budget (o .file) n (b .0) (b .1) (o .accepts) s
+
+  starts : {n : ℕ} → Meant n → n ≡ 0 → start (o .file) (length work) args store ≡ ok tt
+  starts {n} m z = sym (m (o .file) (o .declared)) ∙ outcome-none n z
+
+  pub begin-begun : {n : ℕ} {w : List ℕ} → Meant n → n ≡ 0 → length w ≡ length work → w ≡ wiped 4096 work → Begun bytes decl args store w
+  begin-begun m z l q =
+      record {
+        file = o .file;
+        declared = o .declared;
+        accepts = o .accepts;
+        many = counted;
+        started = accepted-started bytes (o .file) (o .accepts) (length work) args store (starts m z);
+        room = omega (arith, o .room, l);
+        clear = λ i a b. ap (λ x. getD x i 0) q ∙ wiped-at 4096 i work (omega arith);
+      }
+
+  pub begin-ran : (budget : ℕ) (w₂ : List ℕ) {n limit : ℕ} {w₁ w₃ store′ : List ℕ} {r : Ran} {a : Answer} → Meant n → n ≡ 0 → limit ≡ budget-of budget
+      → length w₁ ≡ length work → w₁ ≡ wiped 4096 work
+      → ((b : Begun bytes decl args store w₁) → answerOf r store′ ≡ run (b .file) limit (begins (b .file) args store) 0 1)
+      → drop 4096 w₂ ≡ drop 4096 w₁ → w₃ ≡ wiped 4096 w₂ → a ≡ steppedBy r → ended a store′ w₃ ≡ runOf bytes args store work budget
+  unfolding begin-begun
+  begin-ran budget w₂ {limit = limit} {w₁ = w₁} {w₃ = w₃} {store′ = store′} {r = r} m z l k q runs d e t =
+      let same : w₃ ≡ wiped 4096 work = e ∙ wiped-alike 4096 w₂ work (d ∙ ap (drop 4096) q ∙ drop-wiped 4096 work) in
+      let ran : answerOf r store′ ≡ run (o .file) (budget-of budget) (begins (o .file) args store) 0 1 =
+        runs (begin-begun m z k q) ∙ (λ i. run (o .file) (l i) (begins (o .file) args store) 0 1) in
+      (λ i. ended (t i) store′ (same i)) ∙ executed bytes args store work budget (o .file) (o .accepts) (starts m z) (answerOf r store′) ran
+
+-- the sizes, by the test
+fitting : (s w : ℕ) → unfitOf s w ≡ false → (s % 5 ≡ 0) × (s ≤ 5120) × (4096 ≤ w)
+unfolding unfitOf pick
+fitting s w e = first (eqb (s % 5) 0) refl e
+  where
+    second : s % 5 ≡ 0 → (b : Bool) → ltb 5120 s ≡ b → pick b true (ltb w 4096) ≡ false → (s % 5 ≡ 0) × (s ≤ 5120) × (4096 ≤ w)
+    second z true q h = let y : _≡_ {A = ℕ} 0 1 = cc in absurd (omega arith)
+    second z false q h = (z, ltb-false 5120 s q, ltb-false w 4096 h)
+
+    first : (b : Bool) → eqb (s % 5) 0 ≡ b → pick b (pick (ltb 5120 s) true (ltb w 4096)) true ≡ false → (s % 5 ≡ 0) × (s ≤ 5120) × (4096 ≤ w)
+    first true q h = second (eqb-true (s % 5) 0 q) (ltb 5120 s) refl h
+    first false q h = let y : _≡_ {A = ℕ} 0 1 = cc in absurd (omega arith)
+
+unfitting : (s w : ℕ) → unfitOf s w ≡ true → (s % 5 ≡ 0 → ⊥) ⊎ ((5120 < s) ⊎ (w < 4096))
+unfolding unfitOf pick
+unfitting s w e = first (eqb (s % 5) 0) refl e
+  where
+    second : (b : Bool) → ltb 5120 s ≡ b → pick b true (ltb w 4096) ≡ true → (s % 5 ≡ 0 → ⊥) ⊎ ((5120 < s) ⊎ (w < 4096))
+    second true q h = inr (inl (ltb-true 5120 s q))
+    second false q h = inr (inr (ltb-true w 4096 h))
+
+    first : (b : Bool) → eqb (s % 5) 0 ≡ b → pick b (pick (ltb 5120 s) true (ltb w 4096)) true ≡ true → (s % 5 ≡ 0 → ⊥) ⊎ ((5120 < s) ⊎ (w < 4096))
+    first true q h = second (ltb 5120 s) refl h
+    first false q h = inl (eqb-false (s % 5) 0 q)
+
+-- the whole call, by what was judged
+module _ (bytes args store work : List ℕ) (budget : ℕ) {j : Judged} (e : j ≡ judgedOf bytes) where
+  pub run-refused : (j .number ≡ 0 → ⊥) → {r : Answer} → r ≡ refusal (j .number) (j .place) → ended r store work ≡ runOf bytes args store work budget
+  run-refused n q = (λ i. ended (q i) store work) ∙ refused-file bytes args store work budget (j .number) (j .place) (judged-refuses bytes e n)
+
+  -- the accepted file
+  abbrev Tree : Type 0
+  Tree = Accepts bytes e
+
+  pub tree : j .number ≡ 0 → Tree
+  tree z = judged-accepts bytes e z
+
+  declares : (t : Tree) → Declared (t .file) bytes (j .table)
+  declares t = accepts-declared bytes e t
+
+  pub run-unfit : (t : Tree) {r : Answer} → unfitOf (length store) (length work) ≡ true → r ≡ refusal 20 0 → ended r store work ≡ runOf bytes args store work budget
+  run-unfit t s q =
+      (λ i. ended (q i) store work)
+      ∙ refused-size bytes args store work budget (t .file) 20 (omega arith) (omega arith) (t .fine)
+      (start-20 (t .file) (length work) args store .1 (unfitting (length store) (length work) s))
+
+  pub run-miscounted : (t : Tree) {r : Answer} → unfitOf (length store) (length work) ≡ false → (length args ≡ paramsIn (j .table) 0 → ⊥) → r ≡ refusal 21 0
+      → ended r store work ≡ runOf bytes args store work budget
+  run-miscounted t s n q =
+      let f = fitting (length store) (length work) s in
+      (λ i. ended (q i) store work)
+      ∙ refused-size bytes args store work budget (t .file) 21 (omega arith) (omega arith) (t .fine)
+      (start-21 (t .file) (length work) args store .1 (fit f, λ m. n (m ∙ sym (declares t .parameters 0 (declares t .first)))))
+    where
+      fit : (length store % 5 ≡ 0) × (length store ≤ 5120) × (4096 ≤ length work) → Unfit (t .file) (length work) args store → ⊥
+      fit f (inl h) = h (f .0)
+      fit f (inr (inl h)) = omega (arith, f .1)
+      fit f (inr (inr h)) = omega (arith, f .2)
+
+  pub run-opened : (t : Tree) → unfitOf (length store) (length work) ≡ false → length args ≡ paramsIn (j .table) 0 → Opened bytes (j .table) args store work
+  run-opened t s m =
+      let f = fitting (length store) (length work) s in
+      record { file = t .file; accepts = t .fine; declared = declares t; whole = f .0; few = f .1; room = f .2; many = m }
+
+-- a budget that is not 0 is what it says
+pub positive : (n : ℕ) → (n ≡ 0 → ⊥) → n ≡ budget-of n
+positive zero h = absurd (h refl)
+positive (suc n) h = refl

@@ -1,0 +1,66 @@
+use borrow.Author.Needs.{needs}
+use Rattle.machine.proofs.begin.Statement.{statement}
+use Rattle.machine.proofs.begin.Tie as tie
+use Rattle.machine.proofs.begin.Reads as reads
+use Rattle.machine.proofs.begin.Lts as lts
+use Rattle.machine.proofs.limit_of.Reads as limit-of-reads
+use Rattle.machine.proofs.refused.Reads as refused-reads
+use Rattle.machine.proofs.start.start_check.Reads as start-check-reads
+use Rattle.machine.proofs.start.wipe.Reads as wipe-reads
+use Rattle.machine.proofs.step.execute.Reads as execute-reads
+use Rattle.machine.proofs.stepped.Reads as stepped-reads
+use mathlib.Core.Path.{refl}
+use Rattle.machine.proofs.Running.{begin-refused, begin-begun, begin-ran}
+
+start-check-requires : tie.Need-start-check-requires
+start-check-requires c κs = search needs
+
+refused-requires : tie.Need-refused-requires
+refused-requires c κs = search needs
+
+same-length : tie.Need-same-length
+same-length c = search needs
+
+same-length-2 : tie.Need-same-length-2
+same-length-2 c = search needs
+
+returns : tie.Need-returns
+returns c = begin-refused (c .before .before .before .before .before .before .before .before .before .before .before .pre) _ (c .before .before .before .before .start-check .ensures .0) (c .before .if1 .taken) (c .refused .ensures) (c .before .before .before .before .start-check .ensures .1)
+
+limit-of-requires : tie.Need-limit-of-requires
+limit-of-requires c κs = search needs
+
+execute-requires : tie.Need-execute-requires
+execute-requires c κs = begin-begun (c .before .before .before .before .before .before .before .before .before .before .before .before .before .pre) (c .before .before .before .before .before .before .start-check .ensures .0) (c .before .before .before .if1 .left) (search needs) (c .before .before .before .before .before .before .start-check .ensures .1)
+
+wipe-requires : tie.Need-wipe-requires
+wipe-requires c κs = search needs
+
+stepped-requires : tie.Need-stepped-requires
+stepped-requires c κs = search needs
+
+same-length-3 : tie.Need-same-length-3
+same-length-3 c = search needs
+
+same-length-4 : tie.Need-same-length-4
+same-length-4 c = search needs
+
+returns-2 : tie.Need-returns-2
+returns-2 c = begin-ran (c .before .before .before .before .before .before .before .before .before .before .before .before .before .before .before .before .before .before .before .before .before .before .before .pre) _ _ (c .before .before .before .before .before .before .before .before .before .before .before .before .before .before .before .before .start-check .ensures .0) (c .before .before .before .before .before .before .before .before .before .before .before .before .before .if1 .left) (c .before .before .before .before .before .before .before .before .before .before .before .before .limit-of .ensures) (search needs) (c .before .before .before .before .before .before .before .before .before .before .before .before .before .before .before .before .start-check .ensures .1) (c .before .before .before .before .before .before .before .before .before .execute .ensures .0) (c .before .before .before .before .before .before .before .before .before .execute .ensures .1) (c .before .before .before .wipe .ensures) (c .stepped .ensures)
+
+pub begin-spec : {M : Type 1} → statement M
+begin-spec =
+    tie.close
+    (tie.spec
+    start-check-requires
+    refused-requires
+    same-length
+    same-length-2
+    returns
+    limit-of-requires
+    execute-requires
+    wipe-requires
+    stepped-requires
+    same-length-3
+    same-length-4
+    returns-2)
