@@ -98,35 +98,26 @@ seen-with list seen s h a i l = go (ℕ-discrete i s)
     go (no n) = rw (ne-eqb i s n, or-bit 64 seen s h) (a i l ∙ sym (getD-set-other (bitsOf 64 seen) s i true false n))
 
 -- ---- a node of a term
+
+-- what the code has made of a node whose record was taken
+pub record Made (bytes decl : List ℕ) (at result : ℕ) (slots : List Slot) (bound m : ℕ) (t : Taken) (more : ℕ) (inner : List Slot) (f : Then) : Type 0 where
+  pub wide : length slots ≡ 32
+  pub mark : m ≡ findMark (markAt bytes at)
+  pub taken : t ≡ takenOf bytes decl at slots bound m result
+  pub fine : t .number ≡ 0
+  pub count : more ≡ bound + rowAt m .binds
+  pub kept : inner ≡ keptOf slots (t .spent) bound more (kindBy bytes decl at m) at
+  pub follows : f ≡ thenOf bytes decl at m
+
 module _ (bytes decl : List ℕ) (at result : ℕ) (slots : List Slot) (wide : length slots ≡ 32) (bound : ℕ) where
-
-  -- what the code has made of a node whose record was taken
-  pub record Made (m : ℕ) (t : Taken) (more : ℕ) (inner : List Slot) (f : Then) : Type 0 where
-    pub mark : m ≡ findMark (markAt bytes at)
-    pub taken : t ≡ takenOf bytes decl at slots bound m result
-    pub fine : t .number ≡ 0
-    pub count : more ≡ bound + rowAt m .binds
-    pub kept : inner ≡ keptOf slots (t .spent) bound more (kindBy bytes decl at m) at
-    pub follows : f ≡ thenOf bytes decl at m
-
-  pub made : (m b : ℕ) (t : Taken) (k : Kind) (inner : List Slot) (f : Then) → m ≡ findMark (markAt bytes at) → t ≡ takenOf bytes decl at slots bound m result → t .number ≡ 0
-      → b ≡ rowAt m .binds → k ≡ kindBy bytes decl at m → inner ≡ keptOf slots (t .spent) bound (bound + b) k at → f ≡ thenOf bytes decl at m → Made m t (bound + b) inner f
-  made m b t k inner f em et n eb ek ei ef = record {
-    mark = em;
-    taken = et;
-    fine = n;
-    count = ap (λ x. bound + x) eb;
-    kept = ei ∙ ap (λ x. keptOf slots (t .spent) bound (bound + b) x at) ek;
-    follows = ef
-  }
 
   abbrev Follow : Ready bytes decl at result bound → Then → ℕ → List Slot → Type 0
   Follow g f more inner = Goes (g .file) bytes decl (g .declared) (g .sort) slots wide bound (g .few) f (g .term) (g .next) more inner
 
-  pub room : {m more : ℕ} (g : Ready bytes decl at result bound) → m ≡ findMark (markAt bytes at) → more ≡ bound + rowAt m .binds → more ≤ 32
+  room : {m more : ℕ} (g : Ready bytes decl at result bound) → m ≡ findMark (markAt bytes at) → more ≡ bound + rowAt m .binds → more ≤ 32
   room {m} {more} g e q = rw (q, e, ← (g .here)) (node (g .file) bytes decl (g .declared) (g .sort) slots wide bound (g .few) (g .stands) .room)
 
-  pub stops : {m : ℕ} {t : Taken} → m ≡ findMark (markAt bytes at) → t ≡ takenOf bytes decl at slots bound m result → (t .number ≡ 0 → ⊥)
+  stops : {m : ℕ} {t : Taken} → m ≡ findMark (markAt bytes at) → t ≡ takenOf bytes decl at slots bound m result → (t .number ≡ 0 → ⊥)
       → Judged bytes decl at result slots bound (Fault (t .number) (t .place))
   unfolding spanned
   stops {m} {t} em et n = record { judged = λ g.
@@ -135,142 +126,166 @@ module _ (bytes decl : List ℕ) (at result : ℕ) (slots : List Slot) (wide : l
     let y = rw (g .here, g .wanted, ← em, ← et) at x in
     sym (ap (spanned (g .next)) (y q)) }
 
-  view : {m more : ℕ} {t : Taken} {inner : List Slot} {f : Then} → Made m t more inner f → (g : Ready bytes decl at result bound) → Follow g f more inner
+  view : {m more : ℕ} {t : Taken} {inner : List Slot} {f : Then} → Made bytes decl at result slots bound m t more inner f → (g : Ready bytes decl at result bound) → Follow g f more inner
   view {m} {more} {t} {inner} {f} w g =
       let q : eqb (t .number) 0 ≡ true = eq-eqb (t .number) 0 (w .fine) in
       let x = node (g .file) bytes decl (g .declared) (g .sort) slots wide bound (g .few) (g .stands) .goes in
       let y = rw (g .here, g .wanted, ← (w .mark), ← (w .taken), ← (w .count), ← (w .kept), ← (w .follows)) at x in
       y q
 
-  module _ {m more : ℕ} {t : Taken} {inner : List Slot} {f : Then} (w : Made m t more inner f) where
+module _ {bytes decl : List ℕ} {at result : ℕ} {slots : List Slot} {bound m more : ℕ} {t : Taken} {inner : List Slot} {f : Then}
+    (w : Made bytes decl at result slots bound m t more inner f) where
 
-    abbrev viewed : (x : Then) → f ≡ x → (g : Ready bytes decl at result bound) → Follow g x more inner
-    viewed x e g = subst (λ y. Follow g y more inner) e (view w g)
+  abbrev viewed : (x : Then) → f ≡ x → (g : Ready bytes decl at result bound) → Follow bytes decl at result slots (w .wide) bound g x more inner
+  viewed x e g = subst (λ y. Follow bytes decl at result slots (w .wide) bound g y more inner) e (view bytes decl at result slots (w .wide) bound w g)
 
-    pub leaf-judged : {n : ℕ} → f ≡ Leaf n → Judged bytes decl at result slots bound (Next n)
-    unfolding spanned
-    leaf-judged {n} e = record { judged = λ g.
-      let v = viewed (Leaf n) e g in
-      ap Next (v .0) ∙ sym (ap (spanned (g .next)) (v .1)) }
+  pub leaf-judged : {n : ℕ} → f ≡ Leaf n → Judged bytes decl at result slots bound (Next n)
+  unfolding spanned
+  leaf-judged {n} e = record { judged = λ g.
+    let v = viewed (Leaf n) e g in
+    ap Next (v .0) ∙ sym (ap (spanned (g .next)) (v .1)) }
 
-    pub one-ready : {n : ℕ} → f ≡ One n → Ready bytes decl at result bound → Ready bytes decl n result more
-    one-ready {n} e g =
-        let v = viewed (One n) e g in
-        record {
-          file = g .file;
-          declared = g .declared;
-          sort = g .sort;
-          wanted = g .wanted;
-          term = v .0;
-          next = g .next;
-          here = v .1;
-          stands = v .3;
-          few = room g (w .mark) (w .count)
-        }
-
-    pub one-less : {n : ℕ} → f ≡ One n → Ready bytes decl at result bound → at < n
-    one-less {n} e g =
-        let v = viewed (One n) e g in
-        let h = g .here in
-        omega (arith, v .2)
-
-    pub one-judged : {n : ℕ} {r : Checked} → f ≡ One n → Judged bytes decl n result inner more r → Judged bytes decl at result slots bound r
-    unfolding one-ready
-    one-judged {n} {r} e j = record { judged = λ g.
+  pub one-ready : {n : ℕ} → f ≡ One n → Ready bytes decl at result bound → Ready bytes decl n result more
+  one-ready {n} e g =
       let v = viewed (One n) e g in
-      j .judged (one-ready e g) ∙ sym (ap (spanned (g .next)) (v .4)) }
+      record {
+        file = g .file;
+        declared = g .declared;
+        sort = g .sort;
+        wanted = g .wanted;
+        term = v .0;
+        next = g .next;
+        here = v .1;
+        stands = v .3;
+        few = room bytes decl at result slots (w .wide) bound g (w .mark) (w .count)
+      }
+
+  pub one-less : {n : ℕ} → f ≡ One n → Ready bytes decl at result bound → at < n
+  one-less {n} e g =
+      let v = viewed (One n) e g in
+      let h = g .here in
+      omega (arith, v .2)
+
+  pub one-judged : {n : ℕ} {r : Checked} → f ≡ One n → Judged bytes decl n result inner more r → Judged bytes decl at result slots bound r
+  unfolding one-ready
+  one-judged {n} {r} e j = record { judged = λ g.
+    let v = viewed (One n) e g in
+    j .judged (one-ready e g) ∙ sym (ap (spanned (g .next)) (v .4)) }
 
 
-    -- two terms, one after the other
-    pub two-ready : {n : ℕ} → f ≡ Two n → Ready bytes decl at result bound → Ready bytes decl n result more
-    two-ready {n} e g =
-        let v = viewed (Two n) e g in
-        record {
-          file = g .file;
-          declared = g .declared;
-          sort = g .sort;
-          wanted = g .wanted;
-          term = v .0;
-          next = v .2;
-          here = v .3;
-          stands = v .5;
-          few = room g (w .mark) (w .count)
-        }
-
-    pub two-less : {n : ℕ} → f ≡ Two n → Ready bytes decl at result bound → at < n
-    two-less {n} e g =
-        let v = viewed (Two n) e g in
-        let h = g .here in
-        omega (arith, v .4)
-
-    pub two-stops : {n a b : ℕ} {r : Checked} → f ≡ Two n → Judged bytes decl n result inner more r → r ≡ Fault a b → Judged bytes decl at result slots bound (Fault a b)
-    unfolding two-ready spanned
-    two-stops {n} {a} {b} {r} e j q = record { judged = λ g.
+  -- two terms, one after the other
+  pub two-ready : {n : ℕ} → f ≡ Two n → Ready bytes decl at result bound → Ready bytes decl n result more
+  two-ready {n} e g =
       let v = viewed (Two n) e g in
-      let x = spanned-fault (v .2) a b (check (g .file .constructors) (g .file .functions) (g .sort) (v .0) (slotsOf more inner)) (sym q ∙ j .judged (two-ready e g)) in
-      sym (ap (spanned (g .next)) (v .8 ∙ ap (λ o. then o (λ _. check (g .file .constructors) (g .file .functions) (g .sort) (v .1) (slotsOf more inner))) x)) }
+      record {
+        file = g .file;
+        declared = g .declared;
+        sort = g .sort;
+        wanted = g .wanted;
+        term = v .0;
+        next = v .2;
+        here = v .3;
+        stands = v .5;
+        few = room bytes decl at result slots (w .wide) bound g (w .mark) (w .count)
+      }
 
-    two-told : {n k : ℕ} {r : Checked} → (e : f ≡ Two n) → Judged bytes decl n result inner more r → r ≡ Next k → (g : Ready bytes decl at result bound)
-        → (check (g .file .constructors) (g .file .functions) (g .sort) (viewed (Two n) e g .0) (slotsOf more inner) ≡ ok tt) × (k ≡ viewed (Two n) e g .2)
-    unfolding two-ready
-    two-told {n} {k} {r} e j q g = spanned-next (viewed (Two n) e g .2) k (check (g .file .constructors) (g .file .functions) (g .sort) (viewed (Two n) e g .0) (slotsOf more inner)) (sym q ∙ j .judged (two-ready e g))
-
-    pub second-ready : {n k : ℕ} {r : Checked} → f ≡ Two n → Judged bytes decl n result inner more r → r ≡ Next k → Ready bytes decl at result bound
-        → Ready bytes decl k result more
-    second-ready {n} {k} {r} e j q g =
-        let v = viewed (Two n) e g in
-        record {
-          file = g .file;
-          declared = g .declared;
-          sort = g .sort;
-          wanted = g .wanted;
-          term = v .1;
-          next = g .next;
-          here = v .6 ∙ sym (two-told e j q g .1);
-          stands = v .7;
-          few = room g (w .mark) (w .count)
-        }
-
-    pub second-less : {n k : ℕ} {r : Checked} → f ≡ Two n → Judged bytes decl n result inner more r → r ≡ Next k → Ready bytes decl at result bound → at < k
-    second-less {n} {k} {r} e j q g =
-        let v = viewed (Two n) e g in
-        let h = g .here in
-        let l = stands-past (v .5) in
-        omega (arith, v .4, v .3, l .0, two-told e j q g .1)
-
-    pub two-judged : {n k : ℕ} {r s : Checked} → f ≡ Two n → Judged bytes decl n result inner more r → r ≡ Next k → Judged bytes decl k result inner more s
-        → Judged bytes decl at result slots bound s
-    unfolding second-ready
-    two-judged {n} {k} {r} {s} e j q i = record { judged = λ g.
+  pub two-less : {n : ℕ} → f ≡ Two n → Ready bytes decl at result bound → at < n
+  two-less {n} e g =
       let v = viewed (Two n) e g in
-      i .judged (second-ready e j q g)
-      ∙ sym (ap (spanned (g .next)) (v .8 ∙ ap (λ o. then o (λ _. check (g .file .constructors) (g .file .functions) (g .sort) (v .1) (slotsOf more inner))) (two-told e j q g .0))) }
+      let h = g .here in
+      omega (arith, v .4)
 
-    -- branches
-    pub many-ready : {n left credit : ℕ} → f ≡ Many n left credit → Ready bytes decl at result bound → ReadyAll bytes decl n left credit result more
-    many-ready {n} {left} {credit} e g =
-        let v = viewed (Many n left credit) e g in
-        record {
-          file = g .file;
-          declared = g .declared;
-          sort = g .sort;
-          wanted = g .wanted;
-          branches = v .0;
-          next = g .next;
-          many = v .1;
-          each = v .3;
-          few = room g (w .mark) (w .count);
-          flag = v .4
-        }
+  pub two-stops : {n a b : ℕ} {r : Checked} → f ≡ Two n → Judged bytes decl n result inner more r → r ≡ Fault a b → Judged bytes decl at result slots bound (Fault a b)
+  unfolding two-ready spanned
+  two-stops {n} {a} {b} {r} e j q = record { judged = λ g.
+    let v = viewed (Two n) e g in
+    let x = spanned-fault (v .2) a b (check (g .file .constructors) (g .file .functions) (g .sort) (v .0) (slotsOf more inner)) (sym q ∙ j .judged (two-ready e g)) in
+    sym (ap (spanned (g .next)) (v .8 ∙ ap (λ o. then o (λ _. check (g .file .constructors) (g .file .functions) (g .sort) (v .1) (slotsOf more inner))) x)) }
 
-    pub many-less : {n left credit : ℕ} → f ≡ Many n left credit → Ready bytes decl at result bound → at < n
-    many-less {n} {left} {credit} e g =
-        let v = viewed (Many n left credit) e g in
-        let h = g .here in
-        omega (arith, v .2)
+  two-told : {n k : ℕ} {r : Checked} → (e : f ≡ Two n) → Judged bytes decl n result inner more r → r ≡ Next k → (g : Ready bytes decl at result bound)
+      → (check (g .file .constructors) (g .file .functions) (g .sort) (viewed (Two n) e g .0) (slotsOf more inner) ≡ ok tt) × (k ≡ viewed (Two n) e g .2)
+  unfolding two-ready
+  two-told {n} {k} {r} e j q g = spanned-next (viewed (Two n) e g .2) k (check (g .file .constructors) (g .file .functions) (g .sort) (viewed (Two n) e g .0) (slotsOf more inner)) (sym q ∙ j .judged (two-ready e g))
 
-    pub many-judged : {n left credit : ℕ} {r : Checked} → f ≡ Many n left credit → JudgedAll bytes decl n left credit 0 result inner more r → Judged bytes decl at result slots bound r
-    unfolding many-ready
-    many-judged {n} {left} {credit} {r} e j = record { judged = λ g.
+  pub second-ready : {n k : ℕ} {r : Checked} → f ≡ Two n → Judged bytes decl n result inner more r → r ≡ Next k → Ready bytes decl at result bound
+      → Ready bytes decl k result more
+  second-ready {n} {k} {r} e j q g =
+      let v = viewed (Two n) e g in
+      record {
+        file = g .file;
+        declared = g .declared;
+        sort = g .sort;
+        wanted = g .wanted;
+        term = v .1;
+        next = g .next;
+        here = v .6 ∙ sym (two-told e j q g .1);
+        stands = v .7;
+        few = room bytes decl at result slots (w .wide) bound g (w .mark) (w .count)
+      }
+
+  pub second-less : {n k : ℕ} {r : Checked} → f ≡ Two n → Judged bytes decl n result inner more r → r ≡ Next k → Ready bytes decl at result bound → at < k
+  second-less {n} {k} {r} e j q g =
+      let v = viewed (Two n) e g in
+      let h = g .here in
+      let l = stands-past (v .5) in
+      omega (arith, v .4, v .3, l .0, two-told e j q g .1)
+
+  pub two-judged : {n k : ℕ} {r s : Checked} → f ≡ Two n → Judged bytes decl n result inner more r → r ≡ Next k → Judged bytes decl k result inner more s
+      → Judged bytes decl at result slots bound s
+  unfolding second-ready
+  two-judged {n} {k} {r} {s} e j q i = record { judged = λ g.
+    let v = viewed (Two n) e g in
+    i .judged (second-ready e j q g)
+    ∙ sym (ap (spanned (g .next)) (v .8 ∙ ap (λ o. then o (λ _. check (g .file .constructors) (g .file .functions) (g .sort) (v .1) (slotsOf more inner))) (two-told e j q g .0))) }
+
+  -- branches
+  pub many-ready : {n left credit : ℕ} → f ≡ Many n left credit → Ready bytes decl at result bound → ReadyAll bytes decl n left credit result more
+  many-ready {n} {left} {credit} e g =
       let v = viewed (Many n left credit) e g in
-      j .judged (many-ready e g) [] seen-none ∙ sym (ap (spanned (g .next)) (v .5)) }
+      record {
+        file = g .file;
+        declared = g .declared;
+        sort = g .sort;
+        wanted = g .wanted;
+        branches = v .0;
+        next = g .next;
+        many = v .1;
+        each = v .3;
+        few = room bytes decl at result slots (w .wide) bound g (w .mark) (w .count);
+        flag = v .4
+      }
+
+  pub many-less : {n left credit : ℕ} → f ≡ Many n left credit → Ready bytes decl at result bound → at < n
+  many-less {n} {left} {credit} e g =
+      let v = viewed (Many n left credit) e g in
+      let h = g .here in
+      omega (arith, v .2)
+
+  pub many-judged : {n left credit : ℕ} {r : Checked} → f ≡ Many n left credit → JudgedAll bytes decl n left credit 0 result inner more r → Judged bytes decl at result slots bound r
+  unfolding many-ready
+  many-judged {n} {left} {credit} {r} e j = record { judged = λ g.
+    let v = viewed (Many n left credit) e g in
+    j .judged (many-ready e g) [] seen-none ∙ sym (ap (spanned (g .next)) (v .5)) }
+
+-- the slots of a node fit, and a record that takes something wrong is the answer
+pub node-room : {bytes decl : List ℕ} {at result bound m b : ℕ} (slots : List Slot) → length slots ≡ 32 → Ready bytes decl at result bound → m ≡ findMark (markAt bytes at)
+    → b ≡ rowAt m .binds → bound + b ≤ 32
+node-room {bytes} {decl} {at} {result} {bound} slots wide g em eb = room bytes decl at result slots wide bound g em (ap (λ x. bound + x) eb)
+
+pub node-stops : {bytes decl : List ℕ} {at result : ℕ} {slots : List Slot} {bound m : ℕ} {t : Taken} → length slots ≡ 32 → m ≡ findMark (markAt bytes at)
+    → t ≡ takenOf bytes decl at slots bound m result → (t .number ≡ 0 → ⊥) → Judged bytes decl at result slots bound (Fault (t .number) (t .place))
+node-stops {bytes} {decl} {at} {result} {slots} {bound} wide em et n = stops bytes decl at result slots wide bound em et n
+
+-- a node that the code has made, by what its functions ensure
+pub made : {bytes decl : List ℕ} {at result : ℕ} {slots : List Slot} {bound m b : ℕ} {t : Taken} {k : Kind} {inner : List Slot} {f : Then} → length slots ≡ 32
+    → m ≡ findMark (markAt bytes at) → t ≡ takenOf bytes decl at slots bound m result → t .number ≡ 0 → b ≡ rowAt m .binds → k ≡ kindBy bytes decl at m
+    → inner ≡ keptOf slots (t .spent) bound (bound + b) k at → f ≡ thenOf bytes decl at m → Made bytes decl at result slots bound m t (bound + b) inner f
+made {bytes} {decl} {at} {result} {slots} {bound} {m} {b} {t} wide em et n eb ek ei ef = record {
+  wide = wide;
+  mark = em;
+  taken = et;
+  fine = n;
+  count = ap (λ x. bound + x) eb;
+  kept = ei ∙ ap (λ x. keptOf slots (t .spent) bound (bound + b) x at) ek;
+  follows = ef
+}
