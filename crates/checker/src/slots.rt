@@ -13,7 +13,7 @@ ghost use Rattle.checker.specs.OwnershipBits.{bitsOf};
 ghost use Rattle.checker.specs.Slots.{kindOf, usedIn, usedKind, nowKind, wantOf, spendsOf, testOf, kindAt, wantAt, wantBack, slotsOf, spentBy, keptOf, unbound};
 
 // What a record asks of a slot: a number, a lent tree to look at, a tree to lend, an owned tree, or a credit of a size.
-pub enum Want {
+pub(crate) enum Want {
     Number,
     Looked,
     Lent,
@@ -146,7 +146,7 @@ fn right_size(kind: Kind, want: Want) -> bool
 }
 
 // A slot's test: 0, or 8, 9 or 10 in this order. `barred`: it counts as used.
-pub fn test(kind: Kind, want: Want, barred: bool) -> u32
+pub(crate) fn test(kind: Kind, want: Want, barred: bool) -> u32
     ensures { λ r. ⌜ r ≡ testOf kind want barred ⌝ }
 {
     if suits(kind, want) {
@@ -165,7 +165,7 @@ pub fn test(kind: Kind, want: Want, barred: bool) -> u32
 }
 
 // Does the slot become used?
-pub fn spends(want: Want) -> bool
+pub(crate) fn spends(want: Want) -> bool
     ensures { λ r. ⌜ r ≡ spendsOf want ⌝ }
 {
     match want {
@@ -192,7 +192,7 @@ fn used(kind: Kind) -> Kind
 }
 
 // A kind as it is now, spent or not.
-pub fn current(kind: Kind, gone: bool) -> Kind
+pub(crate) fn current(kind: Kind, gone: bool) -> Kind
     ensures { λ r. ⌜ r ≡ nowKind gone kind ⌝ }
 {
     if gone {
@@ -216,7 +216,7 @@ fn is_left(kind: Kind) -> bool
 }
 
 // What a parameter's mode asks for: 0 a number, 1 a tree to lend, 2 an owned tree.
-pub fn want_of(mode: usize) -> Want
+pub(crate) fn want_of(mode: usize) -> Want
     ensures { λ r. ⌜ r ≡ wantAt mode ⌝ }
 {
     if mode == 0 {
@@ -229,7 +229,7 @@ pub fn want_of(mode: usize) -> Want
 }
 
 // What a result's sort asks for where it is given back: 0 a number, 1 an owned tree.
-pub fn want_back(sort: usize) -> Want
+pub(crate) fn want_back(sort: usize) -> Want
     ensures { λ r. ⌜ r ≡ wantBack sort ⌝ }
 {
     if sort == 0 {
@@ -239,7 +239,7 @@ pub fn want_back(sort: usize) -> Want
 }
 
 // The kind of slot that a mode binds: 0 a number, 1 lent, 2 owned.
-pub fn kind_of(mode: usize) -> Kind
+pub(crate) fn kind_of(mode: usize) -> Kind
     ensures { λ r. ⌜ r ≡ kindAt mode ⌝ }
 {
     if mode == 0 {
@@ -252,7 +252,7 @@ pub fn kind_of(mode: usize) -> Kind
 }
 
 // Is slot i in the set?
-pub fn has(slots: u32, i: usize) -> bool
+pub(crate) fn has(slots: u32, i: usize) -> bool
     requires { ⌜ i < 32 ⌝ }
     ensures { λ r. ⌜ r ≡ getD (bitsOf 32 slots) i false ⌝ }
 {
@@ -260,7 +260,7 @@ pub fn has(slots: u32, i: usize) -> bool
 }
 
 // The set with slot i.
-pub fn with(slots: u32, i: usize) -> u32
+pub(crate) fn with(slots: u32, i: usize) -> u32
     requires { ⌜ i < 32 ⌝ }
     ensures { λ r. ⌜ r ≡ bitOr slots (2 ^ i) ⌝ }
 {
@@ -284,7 +284,7 @@ fn without_lowest(slots: u32) -> u32
 }
 
 // Is an owned slot or a credit left among the bound ones, those of the set spent?
-pub fn left_over(slots: [Slot; 32], bound: usize, spent: u32) -> bool
+pub(crate) fn left_over(slots: [Slot; 32], bound: usize, spent: u32) -> bool
     requires { ⌜ bound ≤ 32 ⌝ }
     ensures { λ r. ⌜ r ≡ leftover (slotsOf bound (spentBy (bitsOf 32 spent) slots)) ⌝ }
 {
@@ -302,7 +302,7 @@ pub fn left_over(slots: [Slot; 32], bound: usize, spent: u32) -> bool
 }
 
 // The slots with those of the set spent, and the next one bound where there are to be more.
-pub fn keep(
+pub(crate) fn keep(
     slots: [Slot; 32],
     spent: u32,
     bound: usize,
@@ -336,7 +336,7 @@ pub fn keep(
 }
 
 // Slots of which none is bound.
-pub fn fresh_slots() -> [Slot; 32]
+pub(crate) fn fresh_slots() -> [Slot; 32]
     ensures { λ r. ⌜ r ≡ replicate 32 unbound ⌝ }
 {
     [Slot {

@@ -4,8 +4,7 @@ use mathlib.Core.Path.{_≡_, refl, sym, ap, ap₂, _∙_, subst}
 use mathlib.Core.List.{List, [], _∷_, _++_, map, append-assoc, append-nil, map-append}
 use mathlib.Core.Bool.{Bool, true, false, not}
 use native.Mathlib.Omega.{arith}
-use native.Mathlib.Numerals.{add-one}
-use lib.ListN.{length, set, getD, replicate, length-map, length-set}
+use lib.ListN.{length, set, getD, length-map, length-set}
 use lib.Dec.{eqb}
 use lib.Bits.{bitOr}
 use borrow.Author.Tests.{ne-eqb}
@@ -15,22 +14,22 @@ use Rattle.meaning.specs.Choice.{pick}
 use Rattle.meaning.specs.Syntax.{Sort, Mode, Term, Branches, Constructor, File}
 use Rattle.meaning.specs.Syntax as S
 use Rattle.meaning.specs.Plain.{place-of}
-use Rattle.meaning.specs.Outcome.{Outcome, ok, refuse, then, require}
+use Rattle.meaning.specs.Outcome.{Outcome, ok, then, require}
 use Rattle.meaning.specs.Ownership.{check, check-branches}
 use Rattle.meaning.specs.Ownership as tree
 use Rattle.standing.specs.Bytes.{byteAt, arityIn, fieldsIn}
 use Rattle.standing.specs.Stands.{Stands, Each, count}
 use Rattle.standing.specs.Stands as stands
-use Rattle.standing.specs.Table.{Declared, Sorts, sort-byte, mode-byte}
+use Rattle.standing.specs.Table.{Sorts, mode-byte}
 use Rattle.checker.specs.declared.ownership.Checked.{Checked}
 use Rattle.checker.specs.declared.ownership.Checked.the-variants.{Next, Fault}
 use Rattle.checker.specs.OwnershipBits.{bitsOf}
 use Rattle.checker.specs.Slots.{slotOf, slotsOf, bound-slot, kindAt}
 use Rattle.checker.specs.Ownership.{laidOf, creditsOf, branchOf}
 use Rattle.checker.specs.OwnershipReady.{spanned, Ready, Judged, extraBy, boundBy, ReadyAll, Seen, JudgedAll}
-use Rattle.checker.proofs.ownership.Sloting.{slots-more}
-use Rattle.checker.proofs.ownership.Taking.{Scaled, sorts-scaled}
-use Rattle.checker.proofs.ownership.Cycle.{stands-past, spanned-next, spanned-fault, seen-with}
+use Rattle.checker.proofs.ownership.Spending.{slots-more}
+use Rattle.checker.proofs.ownership.Taking.{Scaled, sorts-scaled, alike-with}
+use Rattle.checker.proofs.ownership.Cycle.{stands-past, spanned-next, spanned-fault}
 
 -- ---- slots bound one after the other
 
@@ -98,7 +97,6 @@ credits-are (x ∷ ss) (suc n) h =
     rw (e, k)
 
 module _ (bytes decl : List ℕ) (at : ℕ) (slots : List Slot) (wide : length slots ≡ 32) (bound : ℕ) where
-
   branch-lent : (c : ℕ) (ss : List Sort) → arityIn decl c ≡ length ss → Sorts bytes (fieldsIn decl c) ss → bound + length ss ≤ 32
       → slotsOf (bound + arityIn decl c + creditsOf (arityIn decl c) 0) (branchOf bytes decl c at 0 slots bound) ≡ tree.bind (slotsOf bound slots) (tree.bound-by-LK ss)
   unfolding branchOf pick
@@ -176,7 +174,7 @@ view (stands.BR {p} {c} {second} {next} {extra} {t} {bs} e m l ec lc f q s each)
   few = f;
   here = q;
   stands = s;
-  each = each
+  each = each;
 })
 
 no-branches : {file : File} {bytes : List ℕ} {slots : ℕ} {extra : Constructor → ℕ} {at : ℕ} {bs : Branches} {next : ℕ} → Each file bytes slots extra at bs next → count bs ≡ 0
@@ -187,12 +185,13 @@ no-branches (stands.BR e m l ec lc f q s each) h = absurd (omega arith)
 pub end-judged : {bytes decl : List ℕ} {at left credit seen result : ℕ} {slots : List Slot} {bound : ℕ} → left ≡ 0
     → JudgedAll bytes decl at left credit seen result slots bound (Next at)
 unfolding spanned check-branches
-end-judged {credit = credit} {slots = slots} {bound = bound} z = record { judged = λ g list s.
-  let n = no-branches (g .each) (g .many ∙ z) in
-  ap Next (sym (n .1)) ∙ sym (ap (λ bs. spanned (g .next) (check-branches (g .file .constructors) (g .file .functions) (g .sort) bs (boundBy credit) list (slotsOf bound slots))) (n .0)) }
+end-judged {credit = credit} {slots = slots} {bound = bound} z = record {
+  judged = λ g list s.
+      let n = no-branches (g .each) (g .many ∙ z) in
+      ap Next (sym (n .1)) ∙ sym (ap (λ bs. spanned (g .next) (check-branches (g .file .constructors) (g .file .functions) (g .sort) bs (boundBy credit) list (slotsOf bound slots))) (n .0));
+}
 
 module _ {bytes decl : List ℕ} {at left credit result bound : ℕ} (some : left ≡ 0 → ⊥) (g : ReadyAll bytes decl at left credit result bound) where
-
   abbrev constructor : ℕ
   constructor = byteAt bytes (at + 2)
 
@@ -230,7 +229,7 @@ module _ {bytes decl : List ℕ} {at left credit result bound : ℕ} (some : lef
     next = viewed .second;
     here = viewed .here;
     stands = subst (λ n. Stands (g .file) bytes n (viewed .term) (viewed .second)) more-is (viewed .stands);
-    few = branch-low .3
+    few = branch-low .3;
   }
 
   abbrev checks : tree.Slots → Outcome (Unit {0})
@@ -239,14 +238,14 @@ module _ {bytes decl : List ℕ} {at left credit result bound : ℕ} (some : lef
   -- the branch's own check, and then the rest's
   branch-check : (slots : List Slot) → length slots ≡ 32 → (list : List ℕ)
       → check-branches (g .file .constructors) (g .file .functions) (g .sort) (g .branches) (boundBy credit) list (slotsOf bound slots)
-        ≡ then (require 12 (at + 2) (not (tree.member constructor list)))
-          (λ _. then (checks (slotsOf more (branchOf bytes decl constructor at credit slots bound)))
-          (λ _. check-branches (g .file .constructors) (g .file .functions) (g .sort) (viewed .rest) (boundBy credit) (constructor ∷ list) (slotsOf bound slots)))
+      ≡ then (require 12 (at + 2) (not (tree.member constructor list)))
+      (λ _. then (checks (slotsOf more (branchOf bytes decl constructor at credit slots bound)))
+      (λ _. check-branches (g .file .constructors) (g .file .functions) (g .sort) (viewed .rest) (boundBy credit) (constructor ∷ list) (slotsOf bound slots)))
   unfolding check-branches
   branch-check slots wide list =
       let tells : slotsOf more (branchOf bytes decl constructor at credit slots bound) ≡ tree.bind (slotsOf bound slots) (boundBy credit sorts) =
-          branch-tells bytes decl at slots wide bound constructor credit sorts (g .flag) arity-is
-          (subst (λ c. Sorts bytes (fieldsIn decl c) sorts) (sym (viewed .byte)) (g .declared .sorts (viewed .con) (viewed .low))) (viewed .few) in
+      branch-tells bytes decl at slots wide bound constructor credit sorts (g .flag) arity-is
+      (subst (λ c. Sorts bytes (fieldsIn decl c) sorts) (sym (viewed .byte)) (g .declared .sorts (viewed .con) (viewed .low))) (viewed .few) in
       ap (λ bs. check-branches (g .file .constructors) (g .file .functions) (g .sort) bs (boundBy credit) list (slotsOf bound slots)) (viewed .is)
       ∙ rw (tells, viewed .byte)
 
@@ -267,9 +266,11 @@ pub record Opened (bytes decl : List ℕ) (at left credit seen : ℕ) (slots : L
 pub branch-twice : {bytes decl : List ℕ} {at left credit seen result : ℕ} {slots : List Slot} {bound c : ℕ} → length slots ≡ 32 → (left ≡ 0 → ⊥) → c ≡ byteAt bytes (at + 2)
     → getD (bitsOf 64 seen) c false ≡ true → JudgedAll bytes decl at left credit seen result slots bound (Fault 12 (at + 2))
 unfolding spanned
-branch-twice {bytes} {at = at} {seen = seen} {slots = slots} {c = c} wide some ec b = record { judged = λ g list s.
-  let m : tree.member (byteAt bytes (at + 2)) list ≡ true = s (byteAt bytes (at + 2)) (branch-low some g .2) ∙ ap (λ z. getD (bitsOf 64 seen) z false) (sym ec) ∙ b in
-  sym (ap (spanned (g .next)) (branch-check some g slots wide list) ∙ rw m) }
+branch-twice {bytes} {at = at} {seen = seen} {slots = slots} {c = c} wide some ec b = record {
+  judged = λ g list s.
+      let m : tree.member (byteAt bytes (at + 2)) list ≡ true = s (byteAt bytes (at + 2)) ∙ ap (λ z. getD (bitsOf 64 seen) z false) (sym ec) ∙ b in
+      sym (ap (spanned (g .next)) (branch-check some g slots wide list) ∙ rw m);
+}
 
 more-eq : {bytes decl : List ℕ} {at left credit seen : ℕ} {slots : List Slot} {bound c k x : ℕ} {inner : List Slot} → Opened bytes decl at left credit seen slots bound c k x inner
     → bound + k + x ≡ bound + arityIn decl (byteAt bytes (at + 2)) + creditsOf (arityIn decl (byteAt bytes (at + 2))) credit
@@ -277,7 +278,6 @@ more-eq o = rw (o .extra, o .arity, o .con)
 
 module _ {bytes decl : List ℕ} {at left credit seen result : ℕ} {slots : List Slot} {bound c k x : ℕ} {inner : List Slot}
     (o : Opened bytes decl at left credit seen slots bound c k x inner) where
-
   pub more-fits : ReadyAll bytes decl at left credit result bound → bound + k + x ≤ 32
   more-fits g = rw (o .extra, o .arity, o .con) (branch-low (o .some) g .3)
 
@@ -285,10 +285,9 @@ module _ {bytes decl : List ℕ} {at left credit seen result : ℕ} {slots : Lis
   term-ready g = subst (λ n. Ready bytes decl (at + 3) result n) (sym (more-eq o)) (branch-ready (o .some) g)
 
   unseen : (g : ReadyAll bytes decl at left credit result bound) (list : List ℕ) → Seen list seen → tree.member (byteAt bytes (at + 2)) list ≡ false
-  unseen g list s = s (byteAt bytes (at + 2)) (branch-low (o .some) g .2) ∙ ap (λ z. getD (bitsOf 64 seen) z false) (sym (o .con)) ∙ o .new
+  unseen g list s = s (byteAt bytes (at + 2)) ∙ ap (λ z. getD (bitsOf 64 seen) z false) (sym (o .con)) ∙ o .new
 
   module _ {r : Checked} (j : Judged bytes decl (at + 3) result inner (bound + k + x) r) where
-
     abbrev slots-of : ReadyAll bytes decl at left credit result bound → List Slot
     slots-of g = branchOf bytes decl (byteAt bytes (at + 2)) at credit slots bound
 
@@ -297,16 +296,18 @@ module _ {bytes decl : List ℕ} {at left credit seen result : ℕ} {slots : Lis
     unfolding branch-ready
     told g =
         let i : Judged bytes decl (at + 3) result (slots-of g) (more (o .some) g) r =
-            subst (λ n. Judged bytes decl (at + 3) result (slots-of g) n r) (more-eq o)
-            (subst (λ z. Judged bytes decl (at + 3) result z (bound + k + x) r) (o .kept ∙ ap (λ z. branchOf bytes decl z at credit slots bound) (o .con)) j) in
+        subst (λ n. Judged bytes decl (at + 3) result (slots-of g) n r) (more-eq o)
+        (subst (λ z. Judged bytes decl (at + 3) result z (bound + k + x) r) (o .kept ∙ ap (λ z. branchOf bytes decl z at credit slots bound) (o .con)) j) in
         i .judged (branch-ready (o .some) g)
 
     pub branch-stops : {a b : ℕ} → r ≡ Fault a b → JudgedAll bytes decl at left credit seen result slots bound (Fault a b)
     unfolding spanned
-    branch-stops {a} {b} e = record { judged = λ g list s.
-      let m = unseen g list s in
-      let y = spanned-fault (viewed (o .some) g .second) a b (checks (o .some) g (slotsOf (more (o .some) g) (slots-of g))) (sym e ∙ told g) in
-      sym (ap (spanned (g .next)) (branch-check (o .some) g slots (o .wide) list) ∙ rw (m, y)) }
+    branch-stops {a} {b} e = record {
+      judged = λ g list s.
+          let m = unseen g list s in
+          let y = spanned-fault (viewed (o .some) g .second) a b (checks (o .some) g (slotsOf (more (o .some) g) (slots-of g))) (sym e ∙ told g) in
+          sym (ap (spanned (g .next)) (branch-check (o .some) g slots (o .wide) list) ∙ rw (m, y));
+    }
 
     fine-told : {n : ℕ} → r ≡ Next n → (g : ReadyAll bytes decl at left credit result bound)
         → (checks (o .some) g (slotsOf (more (o .some) g) (slots-of g)) ≡ ok tt) × (n ≡ viewed (o .some) g .second)
@@ -323,7 +324,7 @@ module _ {bytes decl : List ℕ} {at left credit seen result : ℕ} {slots : Lis
       many = count-rest (o .some) g;
       each = subst (λ p. Each (g .file) bytes bound (extraBy credit) p (viewed (o .some) g .rest) (g .next)) (sym (fine-told e g .1)) (viewed (o .some) g .each);
       few = g .few;
-      flag = g .flag
+      flag = g .flag;
     }
 
     pub rest-less : {n : ℕ} → r ≡ Next n → ReadyAll bytes decl at left credit result bound → at < n
@@ -334,9 +335,11 @@ module _ {bytes decl : List ℕ} {at left credit seen result : ℕ} {slots : Lis
     pub branch-judged : {n seen′ : ℕ} {s : Checked} → r ≡ Next n → seen′ ≡ bitOr seen (2 ^ c) → JudgedAll bytes decl n (left - 1) credit seen′ result slots bound s
         → JudgedAll bytes decl at left credit seen result slots bound s
     unfolding rest-ready
-    branch-judged {n} {seen′} {s} e es i = record { judged = λ g list l.
-      let m = unseen g list l in
-      let with : Seen (byteAt bytes (at + 2) ∷ list) seen′ =
-          subst (Seen (byteAt bytes (at + 2) ∷ list)) (sym (es ∙ ap (λ z. bitOr seen (2 ^ z)) (o .con))) (seen-with list seen (byteAt bytes (at + 2)) (branch-low (o .some) g .2) l) in
-      i .judged (rest-ready e g) (byteAt bytes (at + 2) ∷ list) with
-      ∙ sym (ap (spanned (g .next)) (branch-check (o .some) g slots (o .wide) list) ∙ rw (m, fine-told e g .0)) }
+    branch-judged {n} {seen′} {s} e es i = record {
+      judged = λ g list l.
+          let m = unseen g list l in
+          let with : Seen (byteAt bytes (at + 2) ∷ list) seen′ =
+          subst (Seen (byteAt bytes (at + 2) ∷ list)) (sym (es ∙ ap (λ z. bitOr seen (2 ^ z)) (o .con))) (alike-with 64 list seen (byteAt bytes (at + 2)) (branch-low (o .some) g .2) l) in
+          i .judged (rest-ready e g) (byteAt bytes (at + 2) ∷ list) with
+          ∙ sym (ap (spanned (g .next)) (branch-check (o .some) g slots (o .wide) list) ∙ rw (m, fine-told e g .0));
+    }

@@ -25,7 +25,7 @@ use Rattle.checker.proofs.ownership.+check_branches+check_term.Tie.{clo
 use native.Mathlib.Omega.{arith}
 use borrow.Author.Needs.{needs}
 use Prim.Native.Nat.{_-_, _+_}
-use mathlib.Core.Path.{_≡_, sym, _∙_}
+use mathlib.Core.Path.{sym, _∙_}
 use lib.ListN.{length}
 use Rattle.checker.proofs.ownership.Cycle.{ready-low, node-room, node-stops, Made, made, leaf-judged, one-ready, one-less, one-judged, two-ready, two-less, two-stops, second-ready, second-less, two-judged, many-ready, many-less, many-judged}
 use Rattle.checker.proofs.ownership.Branching.{end-judged, branch-low, branch-twice, Opened, more-fits, term-ready, branch-stops, rest-ready, rest-less, branch-judged}
@@ -69,13 +69,13 @@ check-term-calls t = (mark-reads.Asked, mark-reads.Learnt, take-record-reads.Ask
 -- what the code has made of a node whose record was taken
 node-made : (t : ℕ) (c : check-term-lts.After-follows (check-term-calls t) (check-term-at t) check-term.Post)
     → let a = c .before .before .before .before .before .before .before .before .before .args in
-      Made (a .file .now) (a .decl .now) (a .at) (a .result) (a .slots) (a .bound) (c .before .before .before .before .before .before .before .mark .result) (c .before .before .before .before .before .before .take-record .result) (a .bound + c .before .before .before .binds .result) (c .before .keep .result) (c .follows .result)
+    Made (a .file .now) (a .decl .now) (a .at) (a .result) (a .slots) (a .bound) (c .before .before .before .before .before .before .before .mark .result) (c .before .before .before .before .before .before .take-record .result) (a .bound + c .before .before .before .binds .result) (c .before .keep .result) (c .follows .result)
 node-made t c = made (c .before .before .before .before .before .before .before .before .before .good .1 .1 .1 .1 .0 .1 .0 .1) (c .before .before .before .before .before .before .before .mark .ensures) (c .before .before .before .before .before .before .take-record .ensures) (c .before .before .before .before .if1 .left) (c .before .before .before .binds .ensures .0) (c .before .before .bound-kind .ensures) (c .before .keep .ensures) (c .follows .ensures)
 
 -- what the code has made of a branch whose constructor is new
 branch-made : (t : ℕ) (c : check-branches-lts.After-credits (check-branches-calls t) (check-branches-at t) check-branches.Post)
     → let a = c .before .before .before .before .before .before .before .before .args in
-      Opened (a .file .now) (a .decl .now) (a .at) (a .left) (a .credit) (a .seen) (a .slots) (a .bound) (c .before .before .before .before .before .byte .result) (c .before .before .arity .result) (c .credits .result) (c .before .branch-slots .result)
+    Opened (a .file .now) (a .decl .now) (a .at) (a .left) (a .credit) (a .seen) (a .slots) (a .bound) (c .before .before .before .before .before .byte .result) (c .before .before .arity .result) (c .credits .result) (c .before .branch-slots .result)
 branch-made t c = record {
   wide = c .before .before .before .before .before .before .before .before .good .1 .1 .1 .1 .1 .1 .1 .0 .1 .0 .1;
   some = c .before .before .before .before .before .before .if1 .left;
@@ -83,7 +83,7 @@ branch-made t c = record {
   new = sym (c .before .before .before .before .sees .ensures) ∙ c .before .before .before .if2 .left;
   arity = c .before .before .arity .ensures .0;
   kept = c .before .branch-slots .ensures;
-  extra = c .credits .ensures
+  extra = c .credits .ensures;
 }
 
 check-branches-returns : (t : ℕ) → check-branches-lts.Need-returns (check-branches-calls t) (check-branches-at t) check-branches.Post
