@@ -1,7 +1,7 @@
 pub mod Bits
-pub mod Sloting
+pub mod Spending
 pub mod Taking
-pub mod Coding
+pub mod Turns
 pub mod Nodes
 pub mod Cycle
 pub mod Branching

@@ -1,7 +1,7 @@
 -- What the ownership check's records take, bind and are followed by, by the bytes. Assumes nothing.
 use Prim.Native.Nat.{ℕ, zero, suc, _+_, _*_, _^_}
-use mathlib.Core.Bool.{Bool, true, false, _&&_}
-use mathlib.Core.List.{List, [], _∷_}
+use mathlib.Core.Bool.{Bool, false, _&&_}
+use mathlib.Core.List.{List}
 use lib.ListN.{getD, set}
 use lib.Dec.{eqb, leb}
 use lib.Bits.{bitOr}

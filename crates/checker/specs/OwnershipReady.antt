@@ -1,7 +1,7 @@
 -- What the ownership check asks for, a term or branches of some file that stand at the place, and what it answers: what the check of that
 -- term or those branches answers. Assumes nothing.
-use Prim.Native.Nat.{ℕ, zero, suc, _+_, _≤_, _<_}
-use mathlib.Core.Bool.{Bool, false}
+use Prim.Native.Nat.{ℕ, zero, suc, _≤_, _<_}
+use mathlib.Core.Bool.{false}
 use mathlib.Core.List.{List, [], map}
 use mathlib.Core.Path.{_≡_}
 use lib.ListN.{length, getD}
@@ -63,7 +63,7 @@ pub record ReadyAll (bytes decl : List ℕ) (at left credit result bound : ℕ) 
 
 -- a set of constructors, as bits and as a list
 abbrev pub Seen : List ℕ → ℕ → Type 0
-Seen list seen = (c : ℕ) → c < 64 → member c list ≡ getD (bitsOf 64 seen) c false
+Seen list seen = (c : ℕ) → member c list ≡ getD (bitsOf 64 seen) c false
 
 pub record JudgedAll (bytes decl : List ℕ) (at left credit seen result : ℕ) (slots : List Slot) (bound : ℕ) (r : Checked) : Type 0 where
   pub judged : (g : ReadyAll bytes decl at left credit result bound) (list : List ℕ) → Seen list seen

@@ -1,9 +1,29 @@
 // The ownership check: answers 7 to 12, on a file that was read. It goes down a term by calling itself on what follows.
-use meaning::Kind;
-use meaning::Slot;
-use meaning::{find_mark, mark_row, AR, CL, GV, IF, LK, MK, NU, OP, TL};
 use crate::slots::Want;
-use crate::slots::{current, fresh_slots, has, keep, kind_of, left_over, spends, test, want_back, want_of, with};
+use crate::slots::current;
+use crate::slots::fresh_slots;
+use crate::slots::has;
+use crate::slots::keep;
+use crate::slots::kind_of;
+use crate::slots::left_over;
+use crate::slots::spends;
+use crate::slots::test;
+use crate::slots::want_back;
+use crate::slots::want_of;
+use crate::slots::with;
+use meaning::AR;
+use meaning::CL;
+use meaning::GV;
+use meaning::IF;
+use meaning::Kind;
+use meaning::LK;
+use meaning::MK;
+use meaning::NU;
+use meaning::OP;
+use meaning::Slot;
+use meaning::TL;
+use meaning::find_mark;
+use meaning::mark_row;
 ghost use mathlib.Core.Path.{_≡_};
 ghost use mathlib.Core.Bool.{Bool, true, false};
 ghost use Prim.Native.Nat.{_+_, _*_, _^_, _<_, _≤_};
@@ -37,6 +57,7 @@ pub enum Checked {
     Fault(u32, usize),
 }
 
+// Nothing wrong: the slots that are spent.
 fn fine(spent: u32) -> Taken
     ensures { λ r. ⌜ r ≡ fine spent ⌝ }
 {
@@ -47,6 +68,7 @@ fn fine(spent: u32) -> Taken
     }
 }
 
+// A fault and its place.
 fn fault(number: u32, place: usize) -> Taken
     ensures { λ r. ⌜ r ≡ fault number place ⌝ }
 {
@@ -57,12 +79,14 @@ fn fault(number: u32, place: usize) -> Taken
     }
 }
 
+// A byte as a number.
 fn wide(b: u8) -> usize
     ensures { λ r. ⌜ (r ≡ b) × (r < 256) ⌝ }
 {
     b as usize
 }
 
+// A word as a number.
 fn wide_word(w: u32) -> usize
     ensures { λ r. ⌜ (r ≡ w) × (r < 4294967296) ⌝ }
 {
@@ -98,7 +122,7 @@ fn mark(file: &[u8], at: usize) -> usize
     find_mark((byte(file, at) * 256 + byte(file, at + 1)) as u16)
 }
 
-// A constructor's arity, and the place of its first field's sort.
+// A constructor's arity.
 fn arity(decl: &[u32; 128], c: usize) -> usize
     requires { ⌜ length (now decl) ≡ 128 ⌝ }
     ensures { λ r. ⌜ (r ≡ arityIn (now (decl .entry)) c) × (r < 256) ⌝ }
@@ -106,6 +130,7 @@ fn arity(decl: &[u32; 128], c: usize) -> usize
     word(decl, c) % 256
 }
 
+// The place of the sort of a constructor's first field.
 fn sorts(decl: &[u32; 128], c: usize) -> usize
     requires { ⌜ length (now decl) ≡ 128 ⌝ }
     ensures { λ r. ⌜ (r ≡ fieldsIn (now (decl .entry)) c) × (r < 16777216) ⌝ }
@@ -113,7 +138,7 @@ fn sorts(decl: &[u32; 128], c: usize) -> usize
     word(decl, c) / 256
 }
 
-// A function's count of parameters, and the place of its first parameter's mode.
+// A function's count of parameters.
 fn params(decl: &[u32; 128], f: usize) -> usize
     requires { ⌜ (f < 256) × (length (now decl) ≡ 128) ⌝ }
     ensures { λ r. ⌜ (r ≡ paramsIn (now (decl .entry)) f) × (r < 256) ⌝ }
@@ -121,6 +146,7 @@ fn params(decl: &[u32; 128], f: usize) -> usize
     word(decl, 64 + f) % 256
 }
 
+// The place of the mode of a function's first parameter.
 fn modes(decl: &[u32; 128], f: usize) -> usize
     requires { ⌜ (f < 256) × (length (now decl) ≡ 128) ⌝ }
     ensures { λ r. ⌜ (r ≡ modesIn (now (decl .entry)) f) × (r < 16777216) ⌝ }
@@ -245,7 +271,16 @@ fn take_call(file: &[u8], decl: &[u32; 128], at: usize, slots: [Slot; 32], bound
     ensures { λ r. ⌜ r ≡ callOf (now (file .entry)) (now (decl .entry)) at slots bound ⌝ }
 {
     let f = byte(file, at + 2);
-    take_list(file, modes(decl, f), 1, params(decl, f), at + 3, 0, slots, bound)
+    take_list(
+        file,
+        modes(decl, f),
+        1,
+        params(decl, f),
+        at + 3,
+        0,
+        slots,
+        bound,
+    )
 }
 
 // A leaf's record: nothing is left over once it has taken what it takes.
@@ -444,7 +479,7 @@ fn seeing(seen: u64, c: usize) -> u64
 }
 
 // The term at a place, with so many slots bound.
-pub(crate) fn check_term(
+fn check_term(
     file: &[u8],
     decl: &[u32; 128],
     at: usize,
@@ -478,7 +513,7 @@ pub(crate) fn check_term(
 }
 
 // So many branches from a place on, each from the same slots.
-pub(crate) fn check_branches(
+fn check_branches(
     file: &[u8],
     decl: &[u32; 128],
     at: usize,
@@ -503,7 +538,17 @@ pub(crate) fn check_branches(
     let inner = branch_slots(file, decl, c, at, credit, slots, bound);
     let more = bound + k + credits(k, credit);
     match check_term(file, decl, at + 3, result, inner, more) {
-        Checked::Next(next) => check_branches(file, decl, next, left - 1, credit, seeing(seen, c), result, slots, bound),
+        Checked::Next(next) => check_branches(
+            file,
+            decl,
+            next,
+            left - 1,
+            credit,
+            seeing(seen, c),
+            result,
+            slots,
+            bound,
+        ),
         Checked::Fault(number, place) => Checked::Fault(number, place),
     }
 }
@@ -528,7 +573,14 @@ fn check_body(file: &[u8], decl: &[u32; 128], f: usize) -> Checked
     let n = params(decl, f);
     let fresh = fresh_slots();
     let slots = bind_all(file, modes(decl, f), 1, n, head(decl, f), fresh, 0);
-    check_term(file, decl, word(decl, 96 + f), result_of(file, decl, f), slots, n)
+    check_term(
+        file,
+        decl,
+        word(decl, 96 + f),
+        result_of(file, decl, f),
+        slots,
+        n,
+    )
 }
 
 // The bodies of a file that was read, in order.

@@ -13,7 +13,7 @@ ghost use Rattle.checker.specs.OwnershipBits.{bitsOf};
 ghost use Rattle.checker.specs.Slots.{kindOf, usedIn, usedKind, nowKind, wantOf, spendsOf, testOf, kindAt, wantAt, wantBack, slotsOf, spentBy, keptOf, unbound};
 
 // What a record asks of a slot: a number, a lent tree to look at, a tree to lend, an owned tree, or a credit of a size.
-pub enum Want {
+pub(crate) enum Want {
     Number,
     Looked,
     Lent,

@@ -1,21 +1,19 @@
 -- A function's body by the bytes, and the bodies of a file in order. Assumes nothing.
-use Prim.Native.Nat.{ℕ, zero, suc, _+_, _-_, _≤_, _<_}
-use mathlib.Core.Path.{_≡_, refl, sym, ap, ap₂, _∙_, subst}
+use Prim.Native.Nat.{ℕ, suc, _+_, _≤_, _<_}
+use mathlib.Core.Path.{_≡_, refl, sym, ap, _∙_, subst}
 use mathlib.Core.List.{List, [], _∷_, map}
 use native.Mathlib.Omega.{arith}
 use native.Mathlib.Numerals.{add-one}
-use lib.ListN.{length, getD, drop, replicate, length-replicate, drop-of-length-le}
+use lib.ListN.{length, drop, replicate, length-replicate, drop-of-length-le}
 use lib.Seq.{drop-cons}
 use Rattle.meaning.specs.declared.Slot.{Slot}
-use Rattle.meaning.specs.Syntax.{Sort, Signature, Term, File}
-use Rattle.meaning.specs.Plain.{place-of, no-body}
+use Rattle.meaning.specs.Plain.{no-body}
 use Rattle.meaning.specs.Machine.{function-of, body-of}
-use Rattle.meaning.specs.Outcome.{Outcome, ok, refuse, then}
+use Rattle.meaning.specs.Outcome.{then}
 use Rattle.meaning.specs.Ownership.{check, check-bodies, check-file, no-function}
 use Rattle.meaning.specs.Ownership as tree
 use Rattle.standing.specs.Bytes.{paramsIn, modesIn, bodyIn}
 use Rattle.standing.specs.Stands.{Stands}
-use Rattle.standing.specs.Table.{Declared}
 use Rattle.checker.specs.declared.ownership.Checked.{Checked}
 use Rattle.checker.specs.declared.ownership.Checked.the-variants.{Next, Fault}
 use Rattle.checker.specs.Slots.{slotsOf, unbound}
@@ -26,7 +24,6 @@ use Rattle.checker.proofs.ownership.Branching.{laid-tells}
 use Rattle.checker.proofs.ownership.Cycle.{spanned-next, spanned-fault}
 
 module _ (bytes decl : List ℕ) (f : ℕ) where
-
   count-is : (g : ReadyBody bytes decl f) → paramsIn decl f ≡ length (function-of (g .file) f .parameters)
   count-is g = g .declared .parameters f (g .low)
 
@@ -49,12 +46,12 @@ module _ (bytes decl : List ℕ) (f : ℕ) where
     next = g .declared .ends f;
     here = sym (g .declared .bodies f (g .low));
     stands = subst (λ n. Stands (g .file) bytes n (body-of (g .file) f) (g .declared .ends f)) (sym (count-is g)) (g .declared .stands f (g .low));
-    few = body-low g .1
+    few = body-low g .1;
   }
 
   start-slots : (place : ℕ) (g : ReadyBody bytes decl f)
       → slotsOf (paramsIn decl f) (laidOf bytes 1 place (paramsIn decl f) (modesIn decl f) 0 (replicate 32 unbound))
-        ≡ tree.bind [] (map tree.kind-of (function-of (g .file) f .parameters))
+      ≡ tree.bind [] (map tree.kind-of (function-of (g .file) f .parameters))
   unfolding slotsOf
   start-slots place g =
       let ms = function-of (g .file) f .parameters in
@@ -68,9 +65,13 @@ module _ (bytes decl : List ℕ) (f : ℕ) where
       → Judged bytes decl (bodyIn decl f) (resultIn bytes decl f) (laidOf bytes 1 place (paramsIn decl f) (modesIn decl f) 0 (replicate 32 unbound)) (paramsIn decl f) r
       → JudgedBody bytes decl f r
   unfolding body-ready
-  body-judged place j = record { judged = λ g. (g .declared .ends f,
-    j .judged (body-ready g)
-    ∙ ap (λ s. spanned (g .declared .ends f) (check (g .file .constructors) (g .file .functions) (function-of (g .file) f .result) (body-of (g .file) f) s)) (start-slots place g)) }
+  body-judged place j = record {
+    judged = λ g. (
+      g .declared .ends f,
+      j .judged (body-ready g)
+          ∙ ap (λ s. spanned (g .declared .ends f) (check (g .file .constructors) (g .file .functions) (function-of (g .file) f .result) (body-of (g .file) f) s)) (start-slots place g),
+    );
+  }
 
   -- the same with what the code has read and made
   module _ (n start res : ℕ) (en : n ≡ paramsIn decl f) (es : start ≡ bodyIn decl f) (er : res ≡ resultIn bytes decl f) where
@@ -82,7 +83,6 @@ module _ (bytes decl : List ℕ) (f : ℕ) where
     made-judged place m fresh slots r em ef el j = body-judged place (rw (el, ef, em, en, es, er) at j)
 
 module _ (bytes decl : List ℕ) (funs : ℕ) where
-
   -- what is left to check once so many bodies are found fine
   pub record Left (f : ℕ) : Type 0 where
     pub low : f ≤ funs
@@ -98,8 +98,8 @@ module _ (bytes decl : List ℕ) (funs : ℕ) where
 
   next-body : {f : ℕ} → Left f → f < funs → (g : ReadyFile bytes decl funs)
       → check-file (g .file)
-        ≡ then (check (g .file .constructors) (g .file .functions) (function-of (g .file) f .result) (body-of (g .file) f) (tree.bind [] (map tree.kind-of (function-of (g .file) f .parameters))))
-          (λ _. check-bodies (g .file .constructors) (g .file .functions) (drop (suc f) (g .file .functions)) (drop (suc f) (g .file .bodies)))
+      ≡ then (check (g .file .constructors) (g .file .functions) (function-of (g .file) f .result) (body-of (g .file) f) (tree.bind [] (map tree.kind-of (function-of (g .file) f .parameters))))
+      (λ _. check-bodies (g .file .constructors) (g .file .functions) (drop (suc f) (g .file .functions)) (drop (suc f) (g .file .bodies)))
   unfolding check-bodies
   next-body {f} l h g =
       let a : f < length (g .file .functions) = omega (arith, h, g .many) in
@@ -108,21 +108,28 @@ module _ (bytes decl : List ℕ) (funs : ℕ) where
 
   pub fine-left : {f n : ℕ} {r : Checked} → Left f → f < funs → JudgedBody bytes decl f r → r ≡ Next n → Left (f + 1)
   unfolding here-ready
-  fine-left {f} {n} {r} l h j e = record { low = omega (arith, h); left = λ g.
-    let x = j .judged (here-ready h g) in
-    let y = spanned-next (x .0) n (check (g .file .constructors) (g .file .functions) (function-of (g .file) f .result) (body-of (g .file) f) (tree.bind [] (map tree.kind-of (function-of (g .file) f .parameters)))) (sym e ∙ x .1) in
-    next-body l h g ∙ rw (y .0, add-one f) }
+  fine-left {f} {n} {r} l h j e = record {
+    low = omega (arith, h);
+    left = λ g.
+        let x = j .judged (here-ready h g) in
+        let y = spanned-next (x .0) n (check (g .file .constructors) (g .file .functions) (function-of (g .file) f .result) (body-of (g .file) f) (tree.bind [] (map tree.kind-of (function-of (g .file) f .parameters)))) (sym e ∙ x .1) in
+        next-body l h g ∙ rw (y .0, add-one f);
+  }
 
   pub body-stops : {f a b : ℕ} {r : Checked} → Left f → f < funs → JudgedBody bytes decl f r → r ≡ Fault a b → JudgedFile bytes decl funs (Fault a b)
   unfolding here-ready spanned
-  body-stops {f} {a} {b} {r} l h j e = record { judged = λ g.
-    let x = j .judged (here-ready h g) in
-    let y = spanned-fault (x .0) a b (check (g .file .constructors) (g .file .functions) (function-of (g .file) f .result) (body-of (g .file) f) (tree.bind [] (map tree.kind-of (function-of (g .file) f .parameters)))) (sym e ∙ x .1) in
-    sym (ap (spanned 0) (next-body l h g) ∙ rw (y)) }
+  body-stops {f} {a} {b} {r} l h j e = record {
+    judged = λ g.
+        let x = j .judged (here-ready h g) in
+        let y = spanned-fault (x .0) a b (check (g .file .constructors) (g .file .functions) (function-of (g .file) f .result) (body-of (g .file) f) (tree.bind [] (map tree.kind-of (function-of (g .file) f .parameters)))) (sym e ∙ x .1) in
+        sym (ap (spanned 0) (next-body l h g) ∙ rw (y));
+  }
 
   pub none-left : {f : ℕ} → Left f → funs ≤ f → JudgedFile bytes decl funs (Next 0)
   unfolding check-bodies spanned
-  none-left {f} l h = record { judged = λ g.
-    let a : length (g .file .functions) ≤ f = omega (arith, h, g .many) in
-    let b : length (g .file .bodies) ≤ f = omega (arith, a, g .declared .many) in
-    sym (ap (spanned 0) (l .left g) ∙ rw (drop-of-length-le (g .file .functions) a, drop-of-length-le (g .file .bodies) b)) }
+  none-left {f} l h = record {
+    judged = λ g.
+        let a : length (g .file .functions) ≤ f = omega (arith, h, g .many) in
+        let b : length (g .file .bodies) ≤ f = omega (arith, a, g .declared .many) in
+        sym (ap (spanned 0) (l .left g) ∙ rw (drop-of-length-le (g .file .functions) a, drop-of-length-le (g .file .bodies) b));
+  }

@@ -4,8 +4,7 @@ use mathlib.Core.Path.{_≡_, refl, sym, ap, ap₂, _∙_, subst}
 use mathlib.Core.List.{List, [], _∷_, _++_, map, append-assoc, append-nil, map-append}
 use mathlib.Core.Bool.{Bool, true, false, not}
 use native.Mathlib.Omega.{arith}
-use native.Mathlib.Numerals.{add-one}
-use lib.ListN.{length, set, getD, replicate, length-map, length-set}
+use lib.ListN.{length, set, getD, length-map, length-set}
 use lib.Dec.{eqb}
 use lib.Bits.{bitOr}
 use borrow.Author.Tests.{ne-eqb}
@@ -15,22 +14,22 @@ use Rattle.meaning.specs.Choice.{pick}
 use Rattle.meaning.specs.Syntax.{Sort, Mode, Term, Branches, Constructor, File}
 use Rattle.meaning.specs.Syntax as S
 use Rattle.meaning.specs.Plain.{place-of}
-use Rattle.meaning.specs.Outcome.{Outcome, ok, refuse, then, require}
+use Rattle.meaning.specs.Outcome.{Outcome, ok, then, require}
 use Rattle.meaning.specs.Ownership.{check, check-branches}
 use Rattle.meaning.specs.Ownership as tree
 use Rattle.standing.specs.Bytes.{byteAt, arityIn, fieldsIn}
 use Rattle.standing.specs.Stands.{Stands, Each, count}
 use Rattle.standing.specs.Stands as stands
-use Rattle.standing.specs.Table.{Declared, Sorts, sort-byte, mode-byte}
+use Rattle.standing.specs.Table.{Sorts, mode-byte}
 use Rattle.checker.specs.declared.ownership.Checked.{Checked}
 use Rattle.checker.specs.declared.ownership.Checked.the-variants.{Next, Fault}
 use Rattle.checker.specs.OwnershipBits.{bitsOf}
 use Rattle.checker.specs.Slots.{slotOf, slotsOf, bound-slot, kindAt}
 use Rattle.checker.specs.Ownership.{laidOf, creditsOf, branchOf}
 use Rattle.checker.specs.OwnershipReady.{spanned, Ready, Judged, extraBy, boundBy, ReadyAll, Seen, JudgedAll}
-use Rattle.checker.proofs.ownership.Sloting.{slots-more}
-use Rattle.checker.proofs.ownership.Taking.{Scaled, sorts-scaled}
-use Rattle.checker.proofs.ownership.Cycle.{stands-past, spanned-next, spanned-fault, seen-with}
+use Rattle.checker.proofs.ownership.Spending.{slots-more}
+use Rattle.checker.proofs.ownership.Taking.{Scaled, sorts-scaled, alike-with}
+use Rattle.checker.proofs.ownership.Cycle.{stands-past, spanned-next, spanned-fault}
 
 -- ---- slots bound one after the other
 
@@ -98,7 +97,6 @@ credits-are (x ∷ ss) (suc n) h =
     rw (e, k)
 
 module _ (bytes decl : List ℕ) (at : ℕ) (slots : List Slot) (wide : length slots ≡ 32) (bound : ℕ) where
-
   branch-lent : (c : ℕ) (ss : List Sort) → arityIn decl c ≡ length ss → Sorts bytes (fieldsIn decl c) ss → bound + length ss ≤ 32
       → slotsOf (bound + arityIn decl c + creditsOf (arityIn decl c) 0) (branchOf bytes decl c at 0 slots bound) ≡ tree.bind (slotsOf bound slots) (tree.bound-by-LK ss)
   unfolding branchOf pick
@@ -176,7 +174,7 @@ view (stands.BR {p} {c} {second} {next} {extra} {t} {bs} e m l ec lc f q s each)
   few = f;
   here = q;
   stands = s;
-  each = each
+  each = each;
 })
 
 no-branches : {file : File} {bytes : List ℕ} {slots : ℕ} {extra : Constructor → ℕ} {at : ℕ} {bs : Branches} {next : ℕ} → Each file bytes slots extra at bs next → count bs ≡ 0
@@ -184,147 +182,164 @@ no-branches : {file : File} {bytes : List ℕ} {slots : ℕ} {extra : Constructo
 no-branches (stands.end n) h = (refl, n)
 no-branches (stands.BR e m l ec lc f q s each) h = absurd (omega arith)
 
-module _ (bytes decl : List ℕ) (at left credit result : ℕ) (slots : List Slot) (wide : length slots ≡ 32) (bound : ℕ) where
+pub end-judged : {bytes decl : List ℕ} {at left credit seen result : ℕ} {slots : List Slot} {bound : ℕ} → left ≡ 0
+    → JudgedAll bytes decl at left credit seen result slots bound (Next at)
+unfolding spanned check-branches
+end-judged {credit = credit} {slots = slots} {bound = bound} z = record {
+  judged = λ g list s.
+      let n = no-branches (g .each) (g .many ∙ z) in
+      ap Next (sym (n .1)) ∙ sym (ap (λ bs. spanned (g .next) (check-branches (g .file .constructors) (g .file .functions) (g .sort) bs (boundBy credit) list (slotsOf bound slots))) (n .0));
+}
 
-  pub end-judged : (seen : ℕ) → left ≡ 0 → JudgedAll bytes decl at left credit seen result slots bound (Next at)
-  unfolding spanned check-branches
-  end-judged seen z = record { judged = λ g list s.
-    let n = no-branches (g .each) (g .many ∙ z) in
-    ap Next (sym (n .1)) ∙ sym (ap (λ bs. spanned (g .next) (check-branches (g .file .constructors) (g .file .functions) (g .sort) bs (boundBy credit) list (slotsOf bound slots))) (n .0)) }
-
+module _ {bytes decl : List ℕ} {at left credit result bound : ℕ} (some : left ≡ 0 → ⊥) (g : ReadyAll bytes decl at left credit result bound) where
   abbrev constructor : ℕ
   constructor = byteAt bytes (at + 2)
 
   abbrev more : ℕ
   more = bound + arityIn decl constructor + creditsOf (arityIn decl constructor) credit
 
-  abbrev inner : List Slot
-  inner = branchOf bytes decl constructor at credit slots bound
+  viewed : View (g .file) bytes bound (extraBy credit) at (g .branches) (g .next)
+  viewed = view (g .each) (λ z. some (sym (g .many) ∙ z))
 
-  module _ (some : left ≡ 0 → ⊥) where
+  abbrev sorts : List Sort
+  sorts = getD (g .file .constructors) (viewed .con) []
 
-    viewed : (g : ReadyAll bytes decl at left credit result bound) → View (g .file) bytes bound (extraBy credit) at (g .branches) (g .next)
-    viewed g = view (g .each) (λ z. some (sym (g .many) ∙ z))
+  arity-is : arityIn decl constructor ≡ length sorts
+  arity-is = ap (arityIn decl) (viewed .byte) ∙ g .declared .arities (viewed .con) (viewed .low)
 
-    arity-is : (g : ReadyAll bytes decl at left credit result bound) → arityIn decl constructor ≡ length (getD (g .file .constructors) (viewed g .con) [])
-    arity-is g = ap (arityIn decl) (viewed g .byte) ∙ g .declared .arities (viewed g .con) (viewed g .low)
+  more-is : bound + (length sorts + extraBy credit sorts) ≡ more
+  more-is =
+      let e = arity-is in
+      let x : creditsOf (arityIn decl constructor) credit ≡ extraBy credit sorts = ap (λ k. creditsOf k credit) e ∙ credits-are sorts credit (g .flag) in
+      omega arith
 
-    more-is : (g : ReadyAll bytes decl at left credit result bound)
-        → bound + (length (getD (g .file .constructors) (viewed g .con) []) + extraBy credit (getD (g .file .constructors) (viewed g .con) [])) ≡ more
-    more-is g =
-        let e = arity-is g in
-        let x : creditsOf (arityIn decl constructor) credit ≡ extraBy credit (getD (g .file .constructors) (viewed g .con) []) =
-            ap (λ k. creditsOf k credit) e ∙ credits-are (getD (g .file .constructors) (viewed g .con) []) credit (g .flag) in
-        omega arith
+  pub branch-low : (at + 3 ≤ length bytes) × (at ≤ 4096) × (constructor < 64) × (more ≤ 32) × (credit ≤ 1)
+  branch-low =
+      let s = g .declared .size in
+      let n = g .declared .constructors in
+      (viewed .within, omega (arith, viewed .within), omega (arith, viewed .low, viewed .byte), omega (arith, viewed .few, more-is), g .flag)
 
-    pub branch-low : ReadyAll bytes decl at left credit result bound → (at + 3 ≤ length bytes) × (at ≤ 4096) × (constructor < 64) × (more ≤ 32) × (credit ≤ 1)
-    branch-low g =
-        let v = viewed g in
-        let s = g .declared .size in
-        let n = g .declared .constructors in
-        (v .within, omega (arith, v .within), omega (arith, v .low, v .byte), omega (arith, v .few, more-is g), g .flag)
+  branch-ready : Ready bytes decl (at + 3) result more
+  branch-ready = record {
+    file = g .file;
+    declared = g .declared;
+    sort = g .sort;
+    wanted = g .wanted;
+    term = viewed .term;
+    next = viewed .second;
+    here = viewed .here;
+    stands = subst (λ n. Stands (g .file) bytes n (viewed .term) (viewed .second)) more-is (viewed .stands);
+    few = branch-low .3;
+  }
 
-    pub branch-ready : ReadyAll bytes decl at left credit result bound → Ready bytes decl (at + 3) result more
-    branch-ready g = record {
+  abbrev checks : tree.Slots → Outcome (Unit {0})
+  checks left = check (g .file .constructors) (g .file .functions) (g .sort) (viewed .term) left
+
+  -- the branch's own check, and then the rest's
+  branch-check : (slots : List Slot) → length slots ≡ 32 → (list : List ℕ)
+      → check-branches (g .file .constructors) (g .file .functions) (g .sort) (g .branches) (boundBy credit) list (slotsOf bound slots)
+      ≡ then (require 12 (at + 2) (not (tree.member constructor list)))
+      (λ _. then (checks (slotsOf more (branchOf bytes decl constructor at credit slots bound)))
+      (λ _. check-branches (g .file .constructors) (g .file .functions) (g .sort) (viewed .rest) (boundBy credit) (constructor ∷ list) (slotsOf bound slots)))
+  unfolding check-branches
+  branch-check slots wide list =
+      let tells : slotsOf more (branchOf bytes decl constructor at credit slots bound) ≡ tree.bind (slotsOf bound slots) (boundBy credit sorts) =
+      branch-tells bytes decl at slots wide bound constructor credit sorts (g .flag) arity-is
+      (subst (λ c. Sorts bytes (fieldsIn decl c) sorts) (sym (viewed .byte)) (g .declared .sorts (viewed .con) (viewed .low))) (viewed .few) in
+      ap (λ bs. check-branches (g .file .constructors) (g .file .functions) (g .sort) bs (boundBy credit) list (slotsOf bound slots)) (viewed .is)
+      ∙ rw (tells, viewed .byte)
+
+  count-rest : count (viewed .rest) ≡ left - 1
+  count-rest = let e = sym (g .many) ∙ ap count (viewed .is) in omega arith
+
+-- what the code has made of a branch
+pub record Opened (bytes decl : List ℕ) (at left credit seen : ℕ) (slots : List Slot) (bound c k x : ℕ) (inner : List Slot) : Type 0 where
+  pub wide : length slots ≡ 32
+  pub some : left ≡ 0 → ⊥
+  pub con : c ≡ byteAt bytes (at + 2)
+  pub new : getD (bitsOf 64 seen) c false ≡ false
+  pub arity : k ≡ arityIn decl c
+  pub kept : inner ≡ branchOf bytes decl c at credit slots bound
+  pub extra : x ≡ creditsOf k credit
+
+-- a constructor that was seen
+pub branch-twice : {bytes decl : List ℕ} {at left credit seen result : ℕ} {slots : List Slot} {bound c : ℕ} → length slots ≡ 32 → (left ≡ 0 → ⊥) → c ≡ byteAt bytes (at + 2)
+    → getD (bitsOf 64 seen) c false ≡ true → JudgedAll bytes decl at left credit seen result slots bound (Fault 12 (at + 2))
+unfolding spanned
+branch-twice {bytes} {at = at} {seen = seen} {slots = slots} {c = c} wide some ec b = record {
+  judged = λ g list s.
+      let m : tree.member (byteAt bytes (at + 2)) list ≡ true = s (byteAt bytes (at + 2)) ∙ ap (λ z. getD (bitsOf 64 seen) z false) (sym ec) ∙ b in
+      sym (ap (spanned (g .next)) (branch-check some g slots wide list) ∙ rw m);
+}
+
+more-eq : {bytes decl : List ℕ} {at left credit seen : ℕ} {slots : List Slot} {bound c k x : ℕ} {inner : List Slot} → Opened bytes decl at left credit seen slots bound c k x inner
+    → bound + k + x ≡ bound + arityIn decl (byteAt bytes (at + 2)) + creditsOf (arityIn decl (byteAt bytes (at + 2))) credit
+more-eq o = rw (o .extra, o .arity, o .con)
+
+module _ {bytes decl : List ℕ} {at left credit seen result : ℕ} {slots : List Slot} {bound c k x : ℕ} {inner : List Slot}
+    (o : Opened bytes decl at left credit seen slots bound c k x inner) where
+  pub more-fits : ReadyAll bytes decl at left credit result bound → bound + k + x ≤ 32
+  more-fits g = rw (o .extra, o .arity, o .con) (branch-low (o .some) g .3)
+
+  pub term-ready : ReadyAll bytes decl at left credit result bound → Ready bytes decl (at + 3) result (bound + k + x)
+  term-ready g = subst (λ n. Ready bytes decl (at + 3) result n) (sym (more-eq o)) (branch-ready (o .some) g)
+
+  unseen : (g : ReadyAll bytes decl at left credit result bound) (list : List ℕ) → Seen list seen → tree.member (byteAt bytes (at + 2)) list ≡ false
+  unseen g list s = s (byteAt bytes (at + 2)) ∙ ap (λ z. getD (bitsOf 64 seen) z false) (sym (o .con)) ∙ o .new
+
+  module _ {r : Checked} (j : Judged bytes decl (at + 3) result inner (bound + k + x) r) where
+    abbrev slots-of : ReadyAll bytes decl at left credit result bound → List Slot
+    slots-of g = branchOf bytes decl (byteAt bytes (at + 2)) at credit slots bound
+
+    told : (g : ReadyAll bytes decl at left credit result bound)
+        → r ≡ spanned (viewed (o .some) g .second) (checks (o .some) g (slotsOf (more (o .some) g) (slots-of g)))
+    unfolding branch-ready
+    told g =
+        let i : Judged bytes decl (at + 3) result (slots-of g) (more (o .some) g) r =
+        subst (λ n. Judged bytes decl (at + 3) result (slots-of g) n r) (more-eq o)
+        (subst (λ z. Judged bytes decl (at + 3) result z (bound + k + x) r) (o .kept ∙ ap (λ z. branchOf bytes decl z at credit slots bound) (o .con)) j) in
+        i .judged (branch-ready (o .some) g)
+
+    pub branch-stops : {a b : ℕ} → r ≡ Fault a b → JudgedAll bytes decl at left credit seen result slots bound (Fault a b)
+    unfolding spanned
+    branch-stops {a} {b} e = record {
+      judged = λ g list s.
+          let m = unseen g list s in
+          let y = spanned-fault (viewed (o .some) g .second) a b (checks (o .some) g (slotsOf (more (o .some) g) (slots-of g))) (sym e ∙ told g) in
+          sym (ap (spanned (g .next)) (branch-check (o .some) g slots (o .wide) list) ∙ rw (m, y));
+    }
+
+    fine-told : {n : ℕ} → r ≡ Next n → (g : ReadyAll bytes decl at left credit result bound)
+        → (checks (o .some) g (slotsOf (more (o .some) g) (slots-of g)) ≡ ok tt) × (n ≡ viewed (o .some) g .second)
+    fine-told {n} e g = spanned-next (viewed (o .some) g .second) n (checks (o .some) g (slotsOf (more (o .some) g) (slots-of g))) (sym e ∙ told g)
+
+    pub rest-ready : {n : ℕ} → r ≡ Next n → ReadyAll bytes decl at left credit result bound → ReadyAll bytes decl n (left - 1) credit result bound
+    rest-ready {n} e g = record {
       file = g .file;
       declared = g .declared;
       sort = g .sort;
       wanted = g .wanted;
-      term = viewed g .term;
-      next = viewed g .second;
-      here = viewed g .here;
-      stands = subst (λ n. Stands (g .file) bytes n (viewed g .term) (viewed g .second)) (more-is g) (viewed g .stands);
-      few = branch-low g .3
+      branches = viewed (o .some) g .rest;
+      next = g .next;
+      many = count-rest (o .some) g;
+      each = subst (λ p. Each (g .file) bytes bound (extraBy credit) p (viewed (o .some) g .rest) (g .next)) (sym (fine-told e g .1)) (viewed (o .some) g .each);
+      few = g .few;
+      flag = g .flag;
     }
 
-    -- the branch's own check, and then the rest's
-    branch-check : (g : ReadyAll bytes decl at left credit result bound) (list : List ℕ)
-        → check-branches (g .file .constructors) (g .file .functions) (g .sort) (g .branches) (boundBy credit) list (slotsOf bound slots)
-          ≡ then (require 12 (at + 2) (not (tree.member constructor list)))
-            (λ _. then (check (g .file .constructors) (g .file .functions) (g .sort) (viewed g .term) (slotsOf more inner))
-            (λ _. check-branches (g .file .constructors) (g .file .functions) (g .sort) (viewed g .rest) (boundBy credit) (constructor ∷ list) (slotsOf bound slots)))
-    unfolding check-branches
-    branch-check g list =
-        let v = viewed g in
-        let sorts = getD (g .file .constructors) (v .con) [] in
-        let tells : slotsOf more inner ≡ tree.bind (slotsOf bound slots) (boundBy credit sorts) =
-            branch-tells bytes decl at slots wide bound constructor credit sorts (g .flag) (arity-is g)
-            (subst (λ c. Sorts bytes (fieldsIn decl c) sorts) (sym (v .byte)) (g .declared .sorts (v .con) (v .low))) (v .few) in
-        ap (λ bs. check-branches (g .file .constructors) (g .file .functions) (g .sort) bs (boundBy credit) list (slotsOf bound slots)) (v .is)
-        ∙ rw (tells, v .byte)
+    pub rest-less : {n : ℕ} → r ≡ Next n → ReadyAll bytes decl at left credit result bound → at < n
+    rest-less {n} e g =
+        let s = stands-past (viewed (o .some) g .stands) in
+        omega (arith, s .0, viewed (o .some) g .here, fine-told e g .1)
 
-    pub branch-twice : (seen : ℕ) → getD (bitsOf 64 seen) constructor false ≡ true → JudgedAll bytes decl at left credit seen result slots bound (Fault 12 (at + 2))
-    unfolding spanned
-    branch-twice seen b = record { judged = λ g list s.
-      let m : tree.member constructor list ≡ true = s constructor (branch-low g .2) ∙ b in
-      sym (ap (spanned (g .next)) (branch-check g list) ∙ rw m) }
-
-    module _ {r : Checked} (j : Judged bytes decl (at + 3) result inner more r) where
-
-      pub branch-stops : (seen : ℕ) → getD (bitsOf 64 seen) constructor false ≡ false → {a b : ℕ} → r ≡ Fault a b → JudgedAll bytes decl at left credit seen result slots bound (Fault a b)
-      unfolding spanned branch-ready
-      branch-stops seen z {a} {b} e = record { judged = λ g list s.
-        let m : tree.member constructor list ≡ false = s constructor (branch-low g .2) ∙ z in
-        let x = spanned-fault (viewed g .second) a b (check (g .file .constructors) (g .file .functions) (g .sort) (viewed g .term) (slotsOf more inner)) (sym e ∙ j .judged (branch-ready g)) in
-        sym (ap (spanned (g .next)) (branch-check g list) ∙ rw (m, x)) }
-
-      fine-told : {n : ℕ} → r ≡ Next n → (g : ReadyAll bytes decl at left credit result bound)
-          → (check (g .file .constructors) (g .file .functions) (g .sort) (viewed g .term) (slotsOf more inner) ≡ ok tt) × (n ≡ viewed g .second)
-      unfolding branch-ready
-      fine-told {n} e g = spanned-next (viewed g .second) n (check (g .file .constructors) (g .file .functions) (g .sort) (viewed g .term) (slotsOf more inner)) (sym e ∙ j .judged (branch-ready g))
-
-      count-rest : (g : ReadyAll bytes decl at left credit result bound) → count (viewed g .rest) ≡ left - 1
-      count-rest g = let e = sym (g .many) ∙ ap count (viewed g .is) in omega arith
-
-      pub rest-ready : {n : ℕ} → r ≡ Next n → ReadyAll bytes decl at left credit result bound → ReadyAll bytes decl n (left - 1) credit result bound
-      rest-ready {n} e g = record {
-        file = g .file;
-        declared = g .declared;
-        sort = g .sort;
-        wanted = g .wanted;
-        branches = viewed g .rest;
-        next = g .next;
-        many = count-rest g;
-        each = subst (λ p. Each (g .file) bytes bound (extraBy credit) p (viewed g .rest) (g .next)) (sym (fine-told e g .1)) (viewed g .each);
-        few = g .few;
-        flag = g .flag
-      }
-
-      pub rest-less : {n : ℕ} → r ≡ Next n → ReadyAll bytes decl at left credit result bound → at < n
-      rest-less {n} e g =
-          let s = stands-past (viewed g .stands) in
-          omega (arith, s .0, viewed g .here, fine-told e g .1)
-
-      pub branch-judged : (seen : ℕ) → getD (bitsOf 64 seen) constructor false ≡ false → {n : ℕ} {s : Checked} → r ≡ Next n
-          → JudgedAll bytes decl n (left - 1) credit (bitOr seen (2 ^ constructor)) result slots bound s → JudgedAll bytes decl at left credit seen result slots bound s
-      unfolding rest-ready
-      branch-judged seen z {n} {s} e i = record { judged = λ g list l.
-        let m : tree.member constructor list ≡ false = l constructor (branch-low g .2) ∙ z in
-        i .judged (rest-ready e g) (constructor ∷ list) (seen-with list seen constructor (branch-low g .2) l)
-        ∙ sym (ap (spanned (g .next)) (branch-check g list) ∙ rw (m, fine-told e g .0)) }
-
-  -- ---- the same with what the code has made of the branch
-  pub record Opened (c k x : ℕ) (slots′ : List Slot) : Type 0 where
-    pub con : c ≡ constructor
-    pub arity : k ≡ arityIn decl c
-    pub extra : x ≡ creditsOf k credit
-    pub kept : slots′ ≡ branchOf bytes decl c at credit slots bound
-
-  pub bit-is : (c seen : ℕ) (b v : Bool) → c ≡ constructor → b ≡ getD (bitsOf 64 seen) c false → b ≡ v → getD (bitsOf 64 seen) constructor false ≡ v
-  bit-is c seen b v ec eb ev = ap (λ z. getD (bitsOf 64 seen) z false) (sym ec) ∙ sym eb ∙ ev
-
-  module _ {c k x : ℕ} {slots′ : List Slot} (o : Opened c k x slots′) where
-    pub more-eq : bound + k + x ≡ more
-    more-eq = rw (o .extra, o .arity, o .con)
-
-    pub opened-ready : (left ≡ 0 → ⊥) → ReadyAll bytes decl at left credit result bound → Ready bytes decl (at + 3) result (bound + k + x)
-    opened-ready some g = subst (λ n. Ready bytes decl (at + 3) result n) (sym more-eq) (branch-ready some g)
-
-    pub opened-judged : {r : Checked} → Judged bytes decl (at + 3) result slots′ (bound + k + x) r → Judged bytes decl (at + 3) result inner more r
-    opened-judged {r} j =
-        subst (λ n. Judged bytes decl (at + 3) result inner n r) more-eq
-        (subst (λ z. Judged bytes decl (at + 3) result z (bound + k + x) r) (o .kept ∙ ap (λ z. branchOf bytes decl z at credit slots bound) (o .con)) j)
-
-    pub rest-judged : (seen seen′ n : ℕ) (s : Checked) → seen′ ≡ bitOr seen (2 ^ c) → JudgedAll bytes decl n (left - 1) credit seen′ result slots bound s
-        → JudgedAll bytes decl n (left - 1) credit (bitOr seen (2 ^ constructor)) result slots bound s
-    rest-judged seen seen′ n s e j = subst (λ z. JudgedAll bytes decl n (left - 1) credit z result slots bound s) (e ∙ ap (λ z. bitOr seen (2 ^ z)) (o .con)) j
+    pub branch-judged : {n seen′ : ℕ} {s : Checked} → r ≡ Next n → seen′ ≡ bitOr seen (2 ^ c) → JudgedAll bytes decl n (left - 1) credit seen′ result slots bound s
+        → JudgedAll bytes decl at left credit seen result slots bound s
+    unfolding rest-ready
+    branch-judged {n} {seen′} {s} e es i = record {
+      judged = λ g list l.
+          let m = unseen g list l in
+          let with : Seen (byteAt bytes (at + 2) ∷ list) seen′ =
+          subst (Seen (byteAt bytes (at + 2) ∷ list)) (sym (es ∙ ap (λ z. bitOr seen (2 ^ z)) (o .con))) (alike-with 64 list seen (byteAt bytes (at + 2)) (branch-low (o .some) g .2) l) in
+          i .judged (rest-ready e g) (byteAt bytes (at + 2) ∷ list) with
+          ∙ sym (ap (spanned (g .next)) (branch-check (o .some) g slots (o .wide) list) ∙ rw (m, fine-told e g .0));
+    }

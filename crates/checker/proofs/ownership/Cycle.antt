@@ -1,45 +1,32 @@
 -- A term and a branch list by the bytes, step by step: what a node or a branch asks of the one that follows, and what it answers from that
 -- one's answer. Assumes nothing.
-use Prim.Native.Nat.{ℕ, zero, suc, _+_, _-_, _*_, _^_, _≤_, _<_}
-use mathlib.Core.Path.{_≡_, refl, sym, ap, ap₂, _∙_, subst}
-use mathlib.Core.List.{List, [], _∷_, _++_, map, append-assoc, append-nil}
-use mathlib.Core.Bool.{Bool, true, false, not, _||_, _&&_}
+use Prim.Native.Nat.{ℕ, _+_, _≤_, _<_}
+use mathlib.Core.Path.{_≡_, refl, sym, ap, _∙_, subst}
+use mathlib.Core.List.{List, [], _∷_}
+use mathlib.Core.Bool.{true, false}
 use native.Mathlib.Omega.{arith}
-use native.Mathlib.Numerals.{add-one}
-use native.Mathlib.Decide.{ℕ-discrete}
-use lib.ListN.{length, set, getD, replicate, length-map, length-set}
-use lib.Seq.{getD-set-same, getD-set-other}
-use lib.Dec.{leb, ltb, eqb}
-use lib.Bits.{bitOr}
+use lib.ListN.{length}
+use lib.Dec.{eqb}
 use borrow.Author.Tests.{eq-eqb, ne-eqb}
 use Rattle.meaning.specs.declared.Kind.{Kind}
-use Rattle.meaning.specs.declared.Kind.the-variants as kind
 use Rattle.meaning.specs.declared.Slot.{Slot}
-use Rattle.meaning.specs.Choice.{pick}
 use Rattle.meaning.specs.Marks.{findMark, rowAt}
-use Rattle.meaning.specs.Syntax.{Sort, Mode, Term, Branches, Constructor, File}
-use Rattle.meaning.specs.Syntax as S
+use Rattle.meaning.specs.Syntax.{Term, Branches, Constructor, File}
 use Rattle.meaning.specs.Plain.{place-of}
-use Rattle.meaning.specs.Reading.{credits}
-use Rattle.meaning.specs.Outcome.{Outcome, ok, refuse, then, require}
-use Rattle.meaning.specs.Ownership.{check, check-branches}
-use Rattle.meaning.specs.Ownership as tree
-use Rattle.standing.specs.Bytes.{byteAt, markAt, arityIn, fieldsIn}
+use Rattle.meaning.specs.Outcome.{Outcome, ok, refuse, then}
+use Rattle.meaning.specs.Ownership.{check}
+use Rattle.standing.specs.Bytes.{markAt}
 use Rattle.standing.specs.Stands.{Stands, Each, count}
 use Rattle.standing.specs.Stands as stands
-use Rattle.standing.specs.Table.{Declared, Sorts, sort-byte, mode-byte}
 use Rattle.checker.specs.declared.ownership.Taken.{Taken}
 use Rattle.checker.specs.declared.ownership.Then.{Then}
 use Rattle.checker.specs.declared.ownership.Then.the-variants.{Leaf, One, Two, Many}
 use Rattle.checker.specs.declared.ownership.Checked.{Checked}
 use Rattle.checker.specs.declared.ownership.Checked.the-variants.{Next, Fault}
-use Rattle.checker.specs.OwnershipBits.{bitsOf}
-use Rattle.checker.specs.Slots.{kindOf, slotOf, slotsOf, bound-slot, kindAt, keptOf}
-use Rattle.checker.specs.Ownership.{takenOf, kindBy, thenOf, laidOf, creditsOf, branchOf}
-use Rattle.checker.specs.OwnershipReady.{spanned, Ready, Judged, extraBy, boundBy, ReadyAll, Seen, JudgedAll}
-use Rattle.checker.proofs.ownership.Bits.{bits-none, bits-length, or-bit}
-use Rattle.checker.proofs.ownership.Sloting.{slots-more}
-use Rattle.checker.proofs.ownership.Taking.{Scaled, sorts-scaled}
+use Rattle.checker.specs.Slots.{slotsOf, keptOf}
+use Rattle.checker.specs.Ownership.{takenOf, kindBy, thenOf}
+use Rattle.checker.specs.OwnershipReady.{spanned, Ready, Judged, ReadyAll, JudgedAll}
+use Rattle.checker.proofs.ownership.Taking.{alike-none}
 use Rattle.checker.proofs.ownership.Nodes.{Goes, node}
 
 -- ---- a term ends behind its place, within the file
@@ -79,198 +66,204 @@ unfolding spanned
 spanned-fault n a b (ok u) e = let z : _≡_ {A = ℕ} 0 1 = cc in absurd (omega arith)
 spanned-fault n a b (refuse x y) e = let p : x ≡ a = cc in let q : y ≡ b = cc in rw (p, q)
 
--- the set of constructors seen, as bits and as a list
-pub seen-none : Seen [] 0
-seen-none c h = sym (ap (λ (l : List Bool). getD l c false) (bits-none 64) ∙ none-there 64 c)
-  where
-    none-there : (d j : ℕ) → getD (replicate d false) j false ≡ false
-    none-there zero j = refl
-    none-there (suc d) zero = refl
-    none-there (suc d) (suc j) = none-there d j
-
-pub seen-with : (list : List ℕ) (seen s : ℕ) → s < 64 → Seen list seen → Seen (s ∷ list) (bitOr seen (2 ^ s))
-seen-with list seen s h a i l = go (ℕ-discrete i s)
-  where
-    go : Dec (i ≡ s) → (eqb i s || tree.member i list) ≡ getD (bitsOf 64 (bitOr seen (2 ^ s))) i false
-    go (yes e) =
-        let m : s < length (bitsOf 64 seen) = omega (arith, bits-length 64 seen) in
-        rw (eq-eqb i s e, or-bit 64 seen s h, e) (sym (getD-set-same (bitsOf 64 seen) s true false m))
-    go (no n) = rw (ne-eqb i s n, or-bit 64 seen s h) (a i l ∙ sym (getD-set-other (bitsOf 64 seen) s i true false n))
-
 -- ---- a node of a term
+
+-- what the code has made of a node whose record was taken
+pub record Made (bytes decl : List ℕ) (at result : ℕ) (slots : List Slot) (bound m : ℕ) (t : Taken) (more : ℕ) (inner : List Slot) (f : Then) : Type 0 where
+  pub wide : length slots ≡ 32
+  pub mark : m ≡ findMark (markAt bytes at)
+  pub taken : t ≡ takenOf bytes decl at slots bound m result
+  pub fine : t .number ≡ 0
+  pub count : more ≡ bound + rowAt m .binds
+  pub kept : inner ≡ keptOf slots (t .spent) bound more (kindBy bytes decl at m) at
+  pub follows : f ≡ thenOf bytes decl at m
+
 module _ (bytes decl : List ℕ) (at result : ℕ) (slots : List Slot) (wide : length slots ≡ 32) (bound : ℕ) where
-
-  -- what the code has made of a node whose record was taken
-  pub record Made (m : ℕ) (t : Taken) (more : ℕ) (inner : List Slot) (f : Then) : Type 0 where
-    pub mark : m ≡ findMark (markAt bytes at)
-    pub taken : t ≡ takenOf bytes decl at slots bound m result
-    pub fine : t .number ≡ 0
-    pub count : more ≡ bound + rowAt m .binds
-    pub kept : inner ≡ keptOf slots (t .spent) bound more (kindBy bytes decl at m) at
-    pub follows : f ≡ thenOf bytes decl at m
-
-  pub made : (m b : ℕ) (t : Taken) (k : Kind) (inner : List Slot) (f : Then) → m ≡ findMark (markAt bytes at) → t ≡ takenOf bytes decl at slots bound m result → t .number ≡ 0
-      → b ≡ rowAt m .binds → k ≡ kindBy bytes decl at m → inner ≡ keptOf slots (t .spent) bound (bound + b) k at → f ≡ thenOf bytes decl at m → Made m t (bound + b) inner f
-  made m b t k inner f em et n eb ek ei ef = record {
-    mark = em;
-    taken = et;
-    fine = n;
-    count = ap (λ x. bound + x) eb;
-    kept = ei ∙ ap (λ x. keptOf slots (t .spent) bound (bound + b) x at) ek;
-    follows = ef
-  }
-
   abbrev Follow : Ready bytes decl at result bound → Then → ℕ → List Slot → Type 0
   Follow g f more inner = Goes (g .file) bytes decl (g .declared) (g .sort) slots wide bound (g .few) f (g .term) (g .next) more inner
 
-  pub room : {m more : ℕ} (g : Ready bytes decl at result bound) → m ≡ findMark (markAt bytes at) → more ≡ bound + rowAt m .binds → more ≤ 32
+  room : {m more : ℕ} (g : Ready bytes decl at result bound) → m ≡ findMark (markAt bytes at) → more ≡ bound + rowAt m .binds → more ≤ 32
   room {m} {more} g e q = rw (q, e, ← (g .here)) (node (g .file) bytes decl (g .declared) (g .sort) slots wide bound (g .few) (g .stands) .room)
 
-  pub stops : {m : ℕ} {t : Taken} → m ≡ findMark (markAt bytes at) → t ≡ takenOf bytes decl at slots bound m result → (t .number ≡ 0 → ⊥)
+  stops : {m : ℕ} {t : Taken} → m ≡ findMark (markAt bytes at) → t ≡ takenOf bytes decl at slots bound m result → (t .number ≡ 0 → ⊥)
       → Judged bytes decl at result slots bound (Fault (t .number) (t .place))
   unfolding spanned
-  stops {m} {t} em et n = record { judged = λ g.
-    let q : eqb (t .number) 0 ≡ false = ne-eqb (t .number) 0 n in
-    let x = node (g .file) bytes decl (g .declared) (g .sort) slots wide bound (g .few) (g .stands) .stops in
-    let y = rw (g .here, g .wanted, ← em, ← et) at x in
-    sym (ap (spanned (g .next)) (y q)) }
+  stops {m} {t} em et n = record {
+    judged = λ g.
+        let q : eqb (t .number) 0 ≡ false = ne-eqb (t .number) 0 n in
+        let x = node (g .file) bytes decl (g .declared) (g .sort) slots wide bound (g .few) (g .stands) .stops in
+        let y = rw (g .here, g .wanted, ← em, ← et) at x in
+        sym (ap (spanned (g .next)) (y q));
+  }
 
-  view : {m more : ℕ} {t : Taken} {inner : List Slot} {f : Then} → Made m t more inner f → (g : Ready bytes decl at result bound) → Follow g f more inner
+  view : {m more : ℕ} {t : Taken} {inner : List Slot} {f : Then} → Made bytes decl at result slots bound m t more inner f → (g : Ready bytes decl at result bound) → Follow g f more inner
   view {m} {more} {t} {inner} {f} w g =
       let q : eqb (t .number) 0 ≡ true = eq-eqb (t .number) 0 (w .fine) in
       let x = node (g .file) bytes decl (g .declared) (g .sort) slots wide bound (g .few) (g .stands) .goes in
       let y = rw (g .here, g .wanted, ← (w .mark), ← (w .taken), ← (w .count), ← (w .kept), ← (w .follows)) at x in
       y q
 
-  module _ {m more : ℕ} {t : Taken} {inner : List Slot} {f : Then} (w : Made m t more inner f) where
+module _ {bytes decl : List ℕ} {at result : ℕ} {slots : List Slot} {bound m more : ℕ} {t : Taken} {inner : List Slot} {f : Then}
+    (w : Made bytes decl at result slots bound m t more inner f) where
+  abbrev viewed : (x : Then) → f ≡ x → (g : Ready bytes decl at result bound) → Follow bytes decl at result slots (w .wide) bound g x more inner
+  viewed x e g = subst (λ y. Follow bytes decl at result slots (w .wide) bound g y more inner) e (view bytes decl at result slots (w .wide) bound w g)
 
-    abbrev viewed : (x : Then) → f ≡ x → (g : Ready bytes decl at result bound) → Follow g x more inner
-    viewed x e g = subst (λ y. Follow g y more inner) e (view w g)
+  pub leaf-judged : {n : ℕ} → f ≡ Leaf n → Judged bytes decl at result slots bound (Next n)
+  unfolding spanned
+  leaf-judged {n} e = record {
+    judged = λ g.
+        let v = viewed (Leaf n) e g in
+        ap Next (v .0) ∙ sym (ap (spanned (g .next)) (v .1));
+  }
 
-    pub leaf-judged : {n : ℕ} → f ≡ Leaf n → Judged bytes decl at result slots bound (Next n)
-    unfolding spanned
-    leaf-judged {n} e = record { judged = λ g.
-      let v = viewed (Leaf n) e g in
-      ap Next (v .0) ∙ sym (ap (spanned (g .next)) (v .1)) }
-
-    pub one-ready : {n : ℕ} → f ≡ One n → Ready bytes decl at result bound → Ready bytes decl n result more
-    one-ready {n} e g =
-        let v = viewed (One n) e g in
-        record {
-          file = g .file;
-          declared = g .declared;
-          sort = g .sort;
-          wanted = g .wanted;
-          term = v .0;
-          next = g .next;
-          here = v .1;
-          stands = v .3;
-          few = room g (w .mark) (w .count)
-        }
-
-    pub one-less : {n : ℕ} → f ≡ One n → Ready bytes decl at result bound → at < n
-    one-less {n} e g =
-        let v = viewed (One n) e g in
-        let h = g .here in
-        omega (arith, v .2)
-
-    pub one-judged : {n : ℕ} {r : Checked} → f ≡ One n → Judged bytes decl n result inner more r → Judged bytes decl at result slots bound r
-    unfolding one-ready
-    one-judged {n} {r} e j = record { judged = λ g.
+  pub one-ready : {n : ℕ} → f ≡ One n → Ready bytes decl at result bound → Ready bytes decl n result more
+  one-ready {n} e g =
       let v = viewed (One n) e g in
-      j .judged (one-ready e g) ∙ sym (ap (spanned (g .next)) (v .4)) }
+      record {
+        file = g .file;
+        declared = g .declared;
+        sort = g .sort;
+        wanted = g .wanted;
+        term = v .0;
+        next = g .next;
+        here = v .1;
+        stands = v .3;
+        few = room bytes decl at result slots (w .wide) bound g (w .mark) (w .count);
+      }
 
+  pub one-less : {n : ℕ} → f ≡ One n → Ready bytes decl at result bound → at < n
+  one-less {n} e g =
+      let v = viewed (One n) e g in
+      let h = g .here in
+      omega (arith, v .2)
 
-    -- two terms, one after the other
-    pub two-ready : {n : ℕ} → f ≡ Two n → Ready bytes decl at result bound → Ready bytes decl n result more
-    two-ready {n} e g =
-        let v = viewed (Two n) e g in
-        record {
-          file = g .file;
-          declared = g .declared;
-          sort = g .sort;
-          wanted = g .wanted;
-          term = v .0;
-          next = v .2;
-          here = v .3;
-          stands = v .5;
-          few = room g (w .mark) (w .count)
-        }
+  pub one-judged : {n : ℕ} {r : Checked} → f ≡ One n → Judged bytes decl n result inner more r → Judged bytes decl at result slots bound r
+  unfolding one-ready
+  one-judged {n} {r} e j = record {
+    judged = λ g.
+        let v = viewed (One n) e g in
+        j .judged (one-ready e g) ∙ sym (ap (spanned (g .next)) (v .4));
+  }
 
-    pub two-less : {n : ℕ} → f ≡ Two n → Ready bytes decl at result bound → at < n
-    two-less {n} e g =
-        let v = viewed (Two n) e g in
-        let h = g .here in
-        omega (arith, v .4)
-
-    pub two-stops : {n a b : ℕ} {r : Checked} → f ≡ Two n → Judged bytes decl n result inner more r → r ≡ Fault a b → Judged bytes decl at result slots bound (Fault a b)
-    unfolding two-ready spanned
-    two-stops {n} {a} {b} {r} e j q = record { judged = λ g.
+  -- two terms, one after the other
+  pub two-ready : {n : ℕ} → f ≡ Two n → Ready bytes decl at result bound → Ready bytes decl n result more
+  two-ready {n} e g =
       let v = viewed (Two n) e g in
-      let x = spanned-fault (v .2) a b (check (g .file .constructors) (g .file .functions) (g .sort) (v .0) (slotsOf more inner)) (sym q ∙ j .judged (two-ready e g)) in
-      sym (ap (spanned (g .next)) (v .8 ∙ ap (λ o. then o (λ _. check (g .file .constructors) (g .file .functions) (g .sort) (v .1) (slotsOf more inner))) x)) }
+      record {
+        file = g .file;
+        declared = g .declared;
+        sort = g .sort;
+        wanted = g .wanted;
+        term = v .0;
+        next = v .2;
+        here = v .3;
+        stands = v .5;
+        few = room bytes decl at result slots (w .wide) bound g (w .mark) (w .count);
+      }
 
-    two-told : {n k : ℕ} {r : Checked} → (e : f ≡ Two n) → Judged bytes decl n result inner more r → r ≡ Next k → (g : Ready bytes decl at result bound)
-        → (check (g .file .constructors) (g .file .functions) (g .sort) (viewed (Two n) e g .0) (slotsOf more inner) ≡ ok tt) × (k ≡ viewed (Two n) e g .2)
-    unfolding two-ready
-    two-told {n} {k} {r} e j q g = spanned-next (viewed (Two n) e g .2) k (check (g .file .constructors) (g .file .functions) (g .sort) (viewed (Two n) e g .0) (slotsOf more inner)) (sym q ∙ j .judged (two-ready e g))
-
-    pub second-ready : {n k : ℕ} {r : Checked} → f ≡ Two n → Judged bytes decl n result inner more r → r ≡ Next k → Ready bytes decl at result bound
-        → Ready bytes decl k result more
-    second-ready {n} {k} {r} e j q g =
-        let v = viewed (Two n) e g in
-        record {
-          file = g .file;
-          declared = g .declared;
-          sort = g .sort;
-          wanted = g .wanted;
-          term = v .1;
-          next = g .next;
-          here = v .6 ∙ sym (two-told e j q g .1);
-          stands = v .7;
-          few = room g (w .mark) (w .count)
-        }
-
-    pub second-less : {n k : ℕ} {r : Checked} → f ≡ Two n → Judged bytes decl n result inner more r → r ≡ Next k → Ready bytes decl at result bound → at < k
-    second-less {n} {k} {r} e j q g =
-        let v = viewed (Two n) e g in
-        let h = g .here in
-        let l = stands-past (v .5) in
-        omega (arith, v .4, v .3, l .0, two-told e j q g .1)
-
-    pub two-judged : {n k : ℕ} {r s : Checked} → f ≡ Two n → Judged bytes decl n result inner more r → r ≡ Next k → Judged bytes decl k result inner more s
-        → Judged bytes decl at result slots bound s
-    unfolding second-ready
-    two-judged {n} {k} {r} {s} e j q i = record { judged = λ g.
+  pub two-less : {n : ℕ} → f ≡ Two n → Ready bytes decl at result bound → at < n
+  two-less {n} e g =
       let v = viewed (Two n) e g in
-      i .judged (second-ready e j q g)
-      ∙ sym (ap (spanned (g .next)) (v .8 ∙ ap (λ o. then o (λ _. check (g .file .constructors) (g .file .functions) (g .sort) (v .1) (slotsOf more inner))) (two-told e j q g .0))) }
+      let h = g .here in
+      omega (arith, v .4)
 
-    -- branches
-    pub many-ready : {n left credit : ℕ} → f ≡ Many n left credit → Ready bytes decl at result bound → ReadyAll bytes decl n left credit result more
-    many-ready {n} {left} {credit} e g =
-        let v = viewed (Many n left credit) e g in
-        record {
-          file = g .file;
-          declared = g .declared;
-          sort = g .sort;
-          wanted = g .wanted;
-          branches = v .0;
-          next = g .next;
-          many = v .1;
-          each = v .3;
-          few = room g (w .mark) (w .count);
-          flag = v .4
-        }
+  pub two-stops : {n a b : ℕ} {r : Checked} → f ≡ Two n → Judged bytes decl n result inner more r → r ≡ Fault a b → Judged bytes decl at result slots bound (Fault a b)
+  unfolding two-ready spanned
+  two-stops {n} {a} {b} {r} e j q = record {
+    judged = λ g.
+        let v = viewed (Two n) e g in
+        let x = spanned-fault (v .2) a b (check (g .file .constructors) (g .file .functions) (g .sort) (v .0) (slotsOf more inner)) (sym q ∙ j .judged (two-ready e g)) in
+        sym (ap (spanned (g .next)) (v .8 ∙ ap (λ o. then o (λ _. check (g .file .constructors) (g .file .functions) (g .sort) (v .1) (slotsOf more inner))) x));
+  }
 
-    pub many-less : {n left credit : ℕ} → f ≡ Many n left credit → Ready bytes decl at result bound → at < n
-    many-less {n} {left} {credit} e g =
-        let v = viewed (Many n left credit) e g in
-        let h = g .here in
-        omega (arith, v .2)
+  two-told : {n k : ℕ} {r : Checked} → (e : f ≡ Two n) → Judged bytes decl n result inner more r → r ≡ Next k → (g : Ready bytes decl at result bound)
+      → (check (g .file .constructors) (g .file .functions) (g .sort) (viewed (Two n) e g .0) (slotsOf more inner) ≡ ok tt) × (k ≡ viewed (Two n) e g .2)
+  unfolding two-ready
+  two-told {n} {k} {r} e j q g = spanned-next (viewed (Two n) e g .2) k (check (g .file .constructors) (g .file .functions) (g .sort) (viewed (Two n) e g .0) (slotsOf more inner)) (sym q ∙ j .judged (two-ready e g))
 
-    pub many-judged : {n left credit : ℕ} {r : Checked} → f ≡ Many n left credit → JudgedAll bytes decl n left credit 0 result inner more r → Judged bytes decl at result slots bound r
-    unfolding many-ready
-    many-judged {n} {left} {credit} {r} e j = record { judged = λ g.
+  pub second-ready : {n k : ℕ} {r : Checked} → f ≡ Two n → Judged bytes decl n result inner more r → r ≡ Next k → Ready bytes decl at result bound
+      → Ready bytes decl k result more
+  second-ready {n} {k} {r} e j q g =
+      let v = viewed (Two n) e g in
+      record {
+        file = g .file;
+        declared = g .declared;
+        sort = g .sort;
+        wanted = g .wanted;
+        term = v .1;
+        next = g .next;
+        here = v .6 ∙ sym (two-told e j q g .1);
+        stands = v .7;
+        few = room bytes decl at result slots (w .wide) bound g (w .mark) (w .count);
+      }
+
+  pub second-less : {n k : ℕ} {r : Checked} → f ≡ Two n → Judged bytes decl n result inner more r → r ≡ Next k → Ready bytes decl at result bound → at < k
+  second-less {n} {k} {r} e j q g =
+      let v = viewed (Two n) e g in
+      let h = g .here in
+      let l = stands-past (v .5) in
+      omega (arith, v .4, v .3, l .0, two-told e j q g .1)
+
+  pub two-judged : {n k : ℕ} {r s : Checked} → f ≡ Two n → Judged bytes decl n result inner more r → r ≡ Next k → Judged bytes decl k result inner more s
+      → Judged bytes decl at result slots bound s
+  unfolding second-ready
+  two-judged {n} {k} {r} {s} e j q i = record {
+    judged = λ g.
+        let v = viewed (Two n) e g in
+        i .judged (second-ready e j q g)
+        ∙ sym (ap (spanned (g .next)) (v .8 ∙ ap (λ o. then o (λ _. check (g .file .constructors) (g .file .functions) (g .sort) (v .1) (slotsOf more inner))) (two-told e j q g .0)));
+  }
+
+  -- branches
+  pub many-ready : {n left credit : ℕ} → f ≡ Many n left credit → Ready bytes decl at result bound → ReadyAll bytes decl n left credit result more
+  many-ready {n} {left} {credit} e g =
       let v = viewed (Many n left credit) e g in
-      j .judged (many-ready e g) [] seen-none ∙ sym (ap (spanned (g .next)) (v .5)) }
+      record {
+        file = g .file;
+        declared = g .declared;
+        sort = g .sort;
+        wanted = g .wanted;
+        branches = v .0;
+        next = g .next;
+        many = v .1;
+        each = v .3;
+        few = room bytes decl at result slots (w .wide) bound g (w .mark) (w .count);
+        flag = v .4;
+      }
+
+  pub many-less : {n left credit : ℕ} → f ≡ Many n left credit → Ready bytes decl at result bound → at < n
+  many-less {n} {left} {credit} e g =
+      let v = viewed (Many n left credit) e g in
+      let h = g .here in
+      omega (arith, v .2)
+
+  pub many-judged : {n left credit : ℕ} {r : Checked} → f ≡ Many n left credit → JudgedAll bytes decl n left credit 0 result inner more r → Judged bytes decl at result slots bound r
+  unfolding many-ready
+  many-judged {n} {left} {credit} {r} e j = record {
+    judged = λ g.
+        let v = viewed (Many n left credit) e g in
+        j .judged (many-ready e g) [] (alike-none 64) ∙ sym (ap (spanned (g .next)) (v .5));
+  }
+
+-- the slots of a node fit, and a record that takes something wrong is the answer
+pub node-room : {bytes decl : List ℕ} {at result bound m b : ℕ} (slots : List Slot) → length slots ≡ 32 → Ready bytes decl at result bound → m ≡ findMark (markAt bytes at)
+    → b ≡ rowAt m .binds → bound + b ≤ 32
+node-room {bytes} {decl} {at} {result} {bound} slots wide g em eb = room bytes decl at result slots wide bound g em (ap (λ x. bound + x) eb)
+
+pub node-stops : {bytes decl : List ℕ} {at result : ℕ} {slots : List Slot} {bound m : ℕ} {t : Taken} → length slots ≡ 32 → m ≡ findMark (markAt bytes at)
+    → t ≡ takenOf bytes decl at slots bound m result → (t .number ≡ 0 → ⊥) → Judged bytes decl at result slots bound (Fault (t .number) (t .place))
+node-stops {bytes} {decl} {at} {result} {slots} {bound} wide em et n = stops bytes decl at result slots wide bound em et n
+
+-- a node that the code has made, by what its functions ensure
+pub made : {bytes decl : List ℕ} {at result : ℕ} {slots : List Slot} {bound m b : ℕ} {t : Taken} {k : Kind} {inner : List Slot} {f : Then} → length slots ≡ 32
+    → m ≡ findMark (markAt bytes at) → t ≡ takenOf bytes decl at slots bound m result → t .number ≡ 0 → b ≡ rowAt m .binds → k ≡ kindBy bytes decl at m
+    → inner ≡ keptOf slots (t .spent) bound (bound + b) k at → f ≡ thenOf bytes decl at m → Made bytes decl at result slots bound m t (bound + b) inner f
+made {bytes} {decl} {at} {result} {slots} {bound} {m} {b} {t} wide em et n eb ek ei ef = record {
+  wide = wide;
+  mark = em;
+  taken = et;
+  fine = n;
+  count = ap (λ x. bound + x) eb;
+  kept = ei ∙ ap (λ x. keptOf slots (t .spent) bound (bound + b) x at) ek;
+  follows = ef;
+}

@@ -1,13 +1,13 @@
 -- One node by the bytes is one node of the definition: what its record takes, what it binds and what follows. Assumes nothing.
-use Prim.Native.Nat.{ℕ, zero, suc, _+_, _-_, _*_, _^_, _≤_, _<_}
-use mathlib.Core.Path.{_≡_, refl, sym, ap, ap₂, _∙_, subst}
+use Prim.Native.Nat.{ℕ, suc, _+_, _*_, _≤_, _<_}
+use mathlib.Core.Path.{_≡_, refl, sym, ap, _∙_, subst}
 use mathlib.Core.List.{List, [], _∷_, _++_, map}
-use mathlib.Core.Bool.{Bool, true, false, not, _||_, _&&_}
+use mathlib.Core.Bool.{Bool, true, false, _&&_}
 use native.Mathlib.Omega.{arith}
 use native.Mathlib.Numerals.{add-one}
-use lib.ListN.{length, set, getD, length-map}
+use lib.ListN.{length, getD, length-map}
 use lib.Dec.{leb, ltb, eqb}
-use borrow.Author.Tests.{lt-ltb, le-ltb, eq-eqb, ne-eqb}
+use borrow.Author.Tests.{lt-ltb, le-ltb}
 use Rattle.meaning.specs.declared.Kind.{Kind}
 use Rattle.meaning.specs.declared.Kind.the-variants as kind
 use Rattle.meaning.specs.declared.Slot.{Slot}
@@ -17,13 +17,13 @@ use Rattle.meaning.specs.Syntax.{Sort, Mode, Term, Branches, File}
 use Rattle.meaning.specs.Syntax as S
 use Rattle.meaning.specs.Plain.{place-of}
 use Rattle.meaning.specs.Machine.{function-of}
-use Rattle.meaning.specs.Outcome.{Outcome, ok, refuse, then, require, present}
+use Rattle.meaning.specs.Outcome.{Outcome, ok, refuse, then, require}
 use Rattle.meaning.specs.Ownership.{check, check-branches}
 use Rattle.meaning.specs.Ownership as tree
 use Rattle.standing.specs.Bytes.{byteAt, markAt, arityIn, fieldsIn, paramsIn, modesIn}
 use Rattle.standing.specs.Stands.{Listed, Stands, Each, count}
 use Rattle.standing.specs.Stands as stands
-use Rattle.standing.specs.Table.{Declared, Sorts, Modes, sort-byte, mode-byte}
+use Rattle.standing.specs.Table.{Declared, sort-byte}
 use Rattle.checker.specs.declared.slots.Want.{Want}
 use Rattle.checker.specs.declared.slots.Want.the-variants as want
 use Rattle.checker.specs.declared.ownership.Taken.{Taken}
@@ -33,8 +33,8 @@ use Rattle.checker.specs.OwnershipBits.{bitsOf}
 use Rattle.checker.specs.Slots.{kindOf, usedIn, slotsOf, spentBy, nowKind, unbound, bound-slot, wantOf, wantBack, testOf, kindAt, keptOf}
 use Rattle.checker.specs.Ownership.{fine, fault, onFine, takeKind, takeOf, takeAt, listOf, closeOf, giveOf, pairOf, makeOf, callOf, tailOf, takenOf, resultIn, kindBy, namedBy, pastOf, thenOf}
 use Rattle.checker.specs.OwnershipReady.{extraBy, boundBy}
-use Rattle.checker.proofs.ownership.Sloting.{slots-more, spent-length, leftOf, left-all}
-use Rattle.checker.proofs.ownership.Taking.{told, told-on, told-then, take-tells, list-tells, alike-none, modes-scaled, sorts-scaled, leafed, close-tells}
+use Rattle.checker.proofs.ownership.Spending.{slots-more, spent-length, leftOf, left-all}
+use Rattle.checker.proofs.ownership.Taking.{told, told-then, take-tells, list-tells, alike-none, modes-scaled, sorts-scaled, leafed, close-tells}
 
 -- ---- what is kept of the slots
 
@@ -66,7 +66,6 @@ and-false true = refl
 and-false false = refl
 
 module _ (file : File) (bytes decl : List ℕ) (d : Declared file bytes decl) (sort : Sort) (slots : List Slot) (wide : length slots ≡ 32) (bound : ℕ) (few : bound ≤ 32) where
-
   abbrev checked : Term → tree.Slots → Outcome (Unit {0})
   checked = check (file .constructors) (file .functions) sort
 
@@ -90,7 +89,7 @@ module _ (file : File) (bytes decl : List ℕ) (d : Declared file bytes decl) (s
     pub stops : eqb (takes m t .number) 0 ≡ false → checked t (slotsOf bound slots) ≡ refuse (takes m t .number) (takes m t .place)
     pub goes : eqb (takes m t .number) 0 ≡ true
         → Goes (thenOf bytes decl (place-of t) m) t next (bound + rowAt m .binds)
-          (keptOf slots (takes m t .spent) bound (bound + rowAt m .binds) (kindBy bytes decl (place-of t) m) (place-of t))
+        (keptOf slots (takes m t .spent) bound (bound + rowAt m .binds) (kindBy bytes decl (place-of t) m) (place-of t))
 
   -- a record that was taken, told by the definition
   told-stops : {A : Type 0} (x : Taken) (k : tree.Slots → Outcome A) → eqb (x .number) 0 ≡ false → then (told slots bound x) k ≡ refuse (x .number) (x .place)
@@ -107,7 +106,7 @@ module _ (file : File) (bytes decl : List ℕ) (d : Declared file bytes decl) (s
   leaf-node m next t b f e = record {
     room = rw b (omega arith);
     stops = λ q. rw q at e;
-    goes = λ q. rw f (refl, rw q at e)
+    goes = λ q. rw f (refl, rw q at e);
   }
 
   one-node : (m next : ℕ) (t u : Term) (k : tree.Kind) → rowAt m .binds ≡ 1 → thenOf bytes decl (place-of t) m ≡ One (place-of u) → place-of t < place-of u → bound < 32
@@ -116,10 +115,15 @@ module _ (file : File) (bytes decl : List ℕ) (d : Declared file bytes decl) (s
   one-node m next t u k b f less h s ek eu e = record {
     room = rw b (omega arith);
     stops = λ q. e ∙ told-stops (takes m t) (λ left. checked u (tree.bind left (k ∷ []))) q;
-    goes = λ q. rw f (u, refl, less, subst (λ n. Stands file bytes n u next) (sym more) s,
+    goes = λ q. rw f (
+      u,
+      refl,
+      less,
+      subst (λ n. Stands file bytes n u next) (sym more) s,
       e ∙ told-goes (takes m t) (λ left. checked u (tree.bind left (k ∷ []))) q
-      ∙ ap (λ left. checked u left) (ap (λ z. tree.bind (leftOf slots bound (takes m t .spent)) (z ∷ [])) (sym ek)
-        ∙ sym (kept-more slots (takes m t .spent) bound (bound + rowAt m .binds) (kindBy bytes decl (place-of t) m) (place-of t) wide h (more ∙ sym (add-one bound)) eu)))
+          ∙ ap (λ left. checked u left) (ap (λ z. tree.bind (leftOf slots bound (takes m t .spent)) (z ∷ [])) (sym ek)
+          ∙ sym (kept-more slots (takes m t .spent) bound (bound + rowAt m .binds) (kindBy bytes decl (place-of t) m) (place-of t) wide h (more ∙ sym (add-one bound)) eu)),
+    );
   }
     where
       more : bound + rowAt m .binds ≡ suc bound
@@ -135,8 +139,17 @@ module _ (file : File) (bytes decl : List ℕ) (d : Declared file bytes decl) (s
   two-node m second next t u v b f less s p w e = record {
     room = rw b (omega arith);
     stops = λ q. e ∙ told-stops (takes m t) (λ left. then (checked u left) (λ _. checked v left)) q;
-    goes = λ q. rw f (u, v, second, refl, less, subst (λ n. Stands file bytes n u second) (sym more) s, p, subst (λ n. Stands file bytes n v next) (sym more) w,
-      e ∙ told-goes (takes m t) (λ left. then (checked u left) (λ _. checked v left)) q ∙ ap (λ left. then (checked u left) (λ _. checked v left)) (sym (same-left m t b)))
+    goes = λ q. rw f (
+      u,
+      v,
+      second,
+      refl,
+      less,
+      subst (λ n. Stands file bytes n u second) (sym more) s,
+      p,
+      subst (λ n. Stands file bytes n v next) (sym more) w,
+      e ∙ told-goes (takes m t) (λ left. then (checked u left) (λ _. checked v left)) q ∙ ap (λ left. then (checked u left) (λ _. checked v left)) (sym (same-left m t b)),
+    );
   }
     where
       more : bound + rowAt m .binds ≡ bound
@@ -145,13 +158,19 @@ module _ (file : File) (bytes decl : List ℕ) (d : Declared file bytes decl) (s
   many-node : (m place left credit next : ℕ) (t : Term) (bs : Branches) → rowAt m .binds ≡ 0 → thenOf bytes decl (place-of t) m ≡ Many place left credit → place-of t < place
       → count bs ≡ left → credit ≤ 1 → Each file bytes bound (extraBy credit) place bs next
       → checked t (slotsOf bound slots)
-        ≡ then (told slots bound (takes m t)) (λ l. check-branches (file .constructors) (file .functions) sort bs (boundBy credit) [] l) → Node m t next
+      ≡ then (told slots bound (takes m t)) (λ l. check-branches (file .constructors) (file .functions) sort bs (boundBy credit) [] l) → Node m t next
   many-node m place left credit next t bs b f less n c s e = record {
     room = rw b (omega arith);
     stops = λ q. e ∙ told-stops (takes m t) (λ l. check-branches (file .constructors) (file .functions) sort bs (boundBy credit) [] l) q;
-    goes = λ q. rw f (bs, n, less, subst (λ z. Each file bytes z (extraBy credit) place bs next) (sym more) s, c,
+    goes = λ q. rw f (
+      bs,
+      n,
+      less,
+      subst (λ z. Each file bytes z (extraBy credit) place bs next) (sym more) s,
+      c,
       e ∙ told-goes (takes m t) (λ l. check-branches (file .constructors) (file .functions) sort bs (boundBy credit) [] l) q
-      ∙ ap (λ l. check-branches (file .constructors) (file .functions) sort bs (boundBy credit) [] l) (sym (same-left m t b)))
+          ∙ ap (λ l. check-branches (file .constructors) (file .functions) sort bs (boundBy credit) [] l) (sym (same-left m t b)),
+    );
   }
     where
       more : bound + rowAt m .binds ≡ bound
@@ -167,23 +186,23 @@ module _ (file : File) (bytes decl : List ℕ) (d : Declared file bytes decl) (s
       → told slots bound (callOf bytes decl p slots bound) ≡ tree.pass [] (function-of file f .parameters) ss (p + 3) (slotsOf bound slots)
   unfolding callOf
   call-tells p f ss e l n c =
-      rw (e, d .parameters f l) (list-tells bytes slots wide bound few (function-of file f .parameters) ss 1 (modesIn decl f) (p + 3) 0 0 [] alike-none
-        (modes-scaled bytes (modesIn decl f) (function-of file f .parameters) (d .modes f l)) n c
+      rw (e, d .parameters f l) (list-tells bytes slots wide bound few (function-of file f .parameters) ss 1 (modesIn decl f) (p + 3) 0 0 [] (alike-none 32)
+      (modes-scaled bytes (modesIn decl f) (function-of file f .parameters) (d .modes f l)) n c
       ∙ ap (λ z. tree.pass [] (function-of file f .parameters) ss (p + 3) z) (left-all slots bound))
 
   make-tells : (p c k : ℕ) (ss : List ℕ) → byteAt bytes (p + 2) ≡ c → byteAt bytes (p + 3) ≡ k → c < length (file .constructors) → Listed bytes (p + 4) ss
       → length ss ≡ length (getD (file .constructors) c [])
       → told slots bound (makeOf bytes decl p slots bound)
-        ≡ then (tree.take false (tree.Want.credit (length (getD (file .constructors) c []))) k (p + 3) (slotsOf bound slots))
-          (λ left. tree.pass [] (map tree.mode-owned (getD (file .constructors) c [])) ss (p + 4) left)
+      ≡ then (tree.take false (tree.Want.credit (length (getD (file .constructors) c []))) k (p + 3) (slotsOf bound slots))
+      (λ left. tree.pass [] (map tree.mode-owned (getD (file .constructors) c [])) ss (p + 4) left)
   unfolding makeOf
   make-tells p c k ss e ek l n h =
       rw (e, d .arities c l) (told-then slots bound (takeAt bytes p slots bound 3 (want.Credit (length sorts)))
-        (listOf bytes slots bound 2 (length sorts) (fieldsIn decl c) (p + 4) 0 (takeAt bytes p slots bound 3 (want.Credit (length sorts)) .spent))
-        (λ left. tree.pass [] (map tree.mode-owned sorts) ss (p + 4) left)
-        (λ q. ap (λ z. told slots bound (listOf bytes slots bound 2 z (fieldsIn decl c) (p + 4) 0 (takeAt bytes p slots bound 3 (want.Credit (length sorts)) .spent))) (sym (length-map sorts tree.mode-owned))
-          ∙ list-tells bytes slots wide bound few (map tree.mode-owned sorts) ss 2 (fieldsIn decl c) (p + 4) 0 (takeAt bytes p slots bound 3 (want.Credit (length sorts)) .spent) [] alike-none
-            (sorts-scaled bytes (fieldsIn decl c) sorts (d .sorts c l)) n (h ∙ sym (length-map sorts tree.mode-owned)))
+      (listOf bytes slots bound 2 (length sorts) (fieldsIn decl c) (p + 4) 0 (takeAt bytes p slots bound 3 (want.Credit (length sorts)) .spent))
+      (λ left. tree.pass [] (map tree.mode-owned sorts) ss (p + 4) left)
+      (λ q. ap (λ z. told slots bound (listOf bytes slots bound 2 z (fieldsIn decl c) (p + 4) 0 (takeAt bytes p slots bound 3 (want.Credit (length sorts)) .spent))) (sym (length-map sorts tree.mode-owned))
+      ∙ list-tells bytes slots wide bound few (map tree.mode-owned sorts) ss 2 (fieldsIn decl c) (p + 4) 0 (takeAt bytes p slots bound 3 (want.Credit (length sorts)) .spent) [] (alike-none 32)
+      (sorts-scaled bytes (fieldsIn decl c) sorts (d .sorts c l)) n (h ∙ sym (length-map sorts tree.mode-owned)))
       ∙ ap (λ o. then o (λ left. tree.pass [] (map tree.mode-owned sorts) ss (p + 4) left)) (take-at p 3 k (want.Credit (length sorts)) ek))
     where
       sorts : List Sort
@@ -210,7 +229,7 @@ module _ (file : File) (bytes decl : List ℕ) (d : Declared file bytes decl) (s
   gv-node p s next e n =
       let q : p + 2 + 1 + 0 ≡ next = omega arith in
       let w : tree.take false (tree.want (tree.mode-owned sort)) s (p + 2) (slotsOf bound slots) ≡ told slots bound (takeAt bytes p slots bound 2 (wantBack (sort-byte sort))) =
-          rw (← (give-want sort)) (sym (take-at p 2 s (wantBack (sort-byte sort)) e)) in
+      rw (← (give-want sort)) (sym (take-at p 2 s (wantBack (sort-byte sort)) e)) in
       leaf-node 4 next (S.GV p s) refl (ap Leaf q)
       (ap (λ o. then o (tree.done p)) (one-pass (tree.mode-owned sort) s (p + 2) (slotsOf bound slots) ∙ w)
       ∙ sym (close-tells (takeAt bytes p slots bound 2 (wantBack (sort-byte sort))) p slots bound))
@@ -235,7 +254,7 @@ module _ (file : File) (bytes decl : List ℕ) (d : Declared file bytes decl) (s
       let q : p + 2 + 2 + arityIn decl (byteAt bytes (p + 2)) ≡ place-of t = omega arith in
       one-node 6 next (S.MK p c k ss t) t tree.Kind.owned refl (ap One q) (omega arith) h s refl refl
       (sym (then-assoc (tree.take false (tree.Want.credit (length (getD (file .constructors) c []))) k (p + 3) (slotsOf bound slots))
-        (λ left. tree.pass [] (map tree.mode-owned (getD (file .constructors) c [])) ss (p + 4) left) (λ left. checked t (tree.bind left (tree.Kind.owned ∷ []))))
+      (λ left. tree.pass [] (map tree.mode-owned (getD (file .constructors) c [])) ss (p + 4) left) (λ left. checked t (tree.bind left (tree.Kind.owned ∷ []))))
       ∙ ap (λ o. then o (λ left. checked t (tree.bind left (tree.Kind.owned ∷ [])))) (sym (make-tells p c k ss ec ek lc l n)))
 
   op-node : (p s next : ℕ) (bs : Branches) → byteAt bytes (p + 2) ≡ s → byteAt bytes (p + 3) ≡ count bs → Each file bytes bound (extraBy 1) (p + 4) bs next → Node 9 (S.OP p s bs) next
@@ -291,7 +310,7 @@ module _ (file : File) (bytes decl : List ℕ) (d : Declared file bytes decl) (s
 
       go : (b : Bool) → eqb (resultIn bytes decl (byteAt bytes (p + 2))) (sort-byte sort) ≡ b
           → then (require 8 (p + 2) b) (λ _. then (tree.pass [] (function-of file f .parameters) ss (p + 3) (slotsOf bound slots)) (tree.done p))
-            ≡ leafed (pick (eqb (resultIn bytes decl (byteAt bytes (p + 2))) (sort-byte sort)) closed (fault 8 (p + 2)))
+          ≡ leafed (pick (eqb (resultIn bytes decl (byteAt bytes (p + 2))) (sort-byte sort)) closed (fault 8 (p + 2)))
       go true z = rw z (ap (λ o. then o (tree.done p)) (sym (call-tells p f ss ef lf l n)) ∙ sym (close-tells (callOf bytes decl p slots bound) p slots bound))
       go false z = rw z refl
 

@@ -1,7 +1,7 @@
 -- What a record takes by the bytes is what the definition takes: one slot, a list of slots, and nothing left over. Assumes nothing.
-use Prim.Native.Nat.{ℕ, zero, suc, _+_, _-_, _*_, _^_, _≤_, _<_}
-use mathlib.Core.Path.{_≡_, refl, sym, ap, ap₂, _∙_, subst}
-use mathlib.Core.List.{List, [], _∷_, _++_, map}
+use Prim.Native.Nat.{ℕ, zero, suc, _+_, _*_, _^_, _≤_, _<_}
+use mathlib.Core.Path.{_≡_, refl, sym, ap, _∙_}
+use mathlib.Core.List.{List, [], _∷_, map}
 use mathlib.Core.Bool.{Bool, true, false, not, _||_, _&&_}
 use mathlib.Core.Option.{Option, none, some}
 use native.Mathlib.Omega.{arith}
@@ -11,7 +11,7 @@ use lib.ListN.{length, set, getD, getElem?, replicate}
 use lib.Seq.{getD-set-same, getD-set-other}
 use lib.Dec.{leb, eqb}
 use lib.Bits.{bitOr}
-use borrow.Author.Tests.{leb-true, leb-false, eqb-true, eqb-false, eq-eqb, ne-eqb}
+use borrow.Author.Tests.{leb-true, leb-false, eq-eqb, ne-eqb}
 use Rattle.meaning.specs.declared.Kind.{Kind}
 use Rattle.meaning.specs.declared.Slot.{Slot}
 use Rattle.meaning.specs.Choice.{pick}
@@ -20,7 +20,7 @@ use Rattle.meaning.specs.Outcome.{Outcome, ok, refuse, then, require, present}
 use Rattle.meaning.specs.Ownership as tree
 use Rattle.standing.specs.Bytes.{byteAt}
 use Rattle.standing.specs.Stands.{Listed}
-use Rattle.standing.specs.Table.{Sorts, Modes, sort-byte, mode-byte}
+use Rattle.standing.specs.Table.{Sorts, Modes, mode-byte}
 use Rattle.checker.specs.declared.slots.Want.{Want}
 use Rattle.checker.specs.declared.slots.Want.the-variants as want
 use Rattle.checker.specs.declared.ownership.Taken.{Taken}
@@ -28,7 +28,7 @@ use Rattle.checker.specs.OwnershipBits.{bitsOf}
 use Rattle.checker.specs.Slots.{kindOf, usedIn, slotOf, slotsOf, nowKind, spentBy, unbound, wantOf, spendsOf, testOf, wantAt}
 use Rattle.checker.specs.Ownership.{fine, fault, onFine, takeKind, takeOf, barsOf, listOf, closeOf}
 use Rattle.checker.proofs.ownership.Bits.{bits-length, bits-none, or-bit}
-use Rattle.checker.proofs.ownership.Sloting.{slot-bound, slot-unbound, spent-at, leftOf, left-with, left-all}
+use Rattle.checker.proofs.ownership.Spending.{slot-bound, slot-unbound, spent-at, leftOf, left-with}
 
 -- what was taken, as the definition tells it
 unfoldable pub told : List Slot → ℕ → Taken → Outcome tree.Slots
@@ -87,12 +87,11 @@ tests-are p true false true true A B S i x a b = ap ok (a refl refl)
 tests-are p true false true false A B S i x a b = ap ok b
 
 module _ (slots : List Slot) (wide : length slots ≡ 32) (bound : ℕ) (few : bound ≤ 32) where
-
   told-kind : (k : Kind) (i p : ℕ) (w : Want) (barred : Bool) (spent : ℕ)
       → let now = nowKind (getD (bitsOf 32 spent) i false) k in
       told slots bound (takeKind k i p w barred spent)
-        ≡ tests p (tree.fits (wantOf w) (kindOf now)) (usedIn now || barred) (tree.sized (wantOf w) (kindOf now)) (spendsOf w)
-            (leftOf slots bound (bitOr spent (2 ^ i))) (leftOf slots bound spent) (leftOf slots bound spent) i (record { kind = kindOf now; used = usedIn now })
+      ≡ tests p (tree.fits (wantOf w) (kindOf now)) (usedIn now || barred) (tree.sized (wantOf w) (kindOf now)) (spendsOf w)
+      (leftOf slots bound (bitOr spent (2 ^ i))) (leftOf slots bound spent) (leftOf slots bound spent) i (record { kind = kindOf now; used = usedIn now })
   unfolding told takeKind testOf tests pick
   told-kind k i p w barred spent =
       let now = nowKind (getD (bitsOf 32 spent) i false) k in
@@ -134,30 +133,30 @@ module _ (slots : List Slot) (wide : length slots ≡ 32) (bound : ℕ) (few : b
           let h = leb-false bound i e in
           rw (e, bound-slot-is h) (told-kind (getD slots i unbound .kind) i p w barred spent
           ∙ tests-are p (tree.fits (wantOf w) (kindOf now)) (usedIn now || barred) (tree.sized (wantOf w) (kindOf now)) (spendsOf w)
-            (leftOf slots bound (bitOr spent (2 ^ i))) S S i x (λ s f. left-with slots bound spent i w wide (omega arith) s f) refl)
+          (leftOf slots bound (bitOr spent (2 ^ i))) S S i x (λ s f. left-with slots bound spent i w wide (omega arith) s f) refl)
 
 -- ---- a list of slots
 
--- the slots that stand earlier in the list, as bits and as a list
-abbrev pub Alike : List ℕ → ℕ → Type 0
-Alike list set = (i : ℕ) → tree.member i list ≡ getD (bitsOf 32 set) i false
+-- a set as the bits of a number and as a list
+abbrev pub Alike : (width : ℕ) → List ℕ → ℕ → Type 0
+Alike d list set = (i : ℕ) → tree.member i list ≡ getD (bitsOf d set) i false
 
-pub alike-none : Alike [] 0
-alike-none i = sym (ap (λ (l : List Bool). getD l i false) (bits-none 32) ∙ none-there 32 i)
+pub alike-none : (d : ℕ) → Alike d [] 0
+alike-none d i = sym (ap (λ (l : List Bool). getD l i false) (bits-none d) ∙ none-there d i)
   where
-    none-there : (d j : ℕ) → getD (replicate d false) j false ≡ false
+    none-there : (n j : ℕ) → getD (replicate n false) j false ≡ false
     none-there zero j = refl
-    none-there (suc d) zero = refl
-    none-there (suc d) (suc j) = none-there d j
+    none-there (suc n) zero = refl
+    none-there (suc n) (suc j) = none-there n j
 
-pub alike-with : (list : List ℕ) (set s : ℕ) → s < 32 → Alike list set → Alike (s ∷ list) (bitOr set (2 ^ s))
-alike-with list earlier s h a i = go (ℕ-discrete i s)
+pub alike-with : (d : ℕ) (list : List ℕ) (set s : ℕ) → s < d → Alike d list set → Alike d (s ∷ list) (bitOr set (2 ^ s))
+alike-with d list earlier s h a i = go (ℕ-discrete i s)
   where
-    go : Dec (i ≡ s) → (eqb i s || tree.member i list) ≡ getD (bitsOf 32 (bitOr earlier (2 ^ s))) i false
+    go : Dec (i ≡ s) → (eqb i s || tree.member i list) ≡ getD (bitsOf d (bitOr earlier (2 ^ s))) i false
     go (yes e) =
-        let l : s < length (bitsOf 32 earlier) = omega (arith, bits-length 32 earlier) in
-        rw (eq-eqb i s e, or-bit 32 earlier s h, e) (sym (getD-set-same (bitsOf 32 earlier) s true false l))
-    go (no n) = rw (ne-eqb i s n, or-bit 32 earlier s h) (a i ∙ sym (getD-set-other (bitsOf 32 earlier) s i true false n))
+        let l : s < length (bitsOf d earlier) = omega (arith, bits-length d earlier) in
+        rw (eq-eqb i s e, or-bit d earlier s h, e) (sym (getD-set-same (bitsOf d earlier) s true false l))
+    go (no n) = rw (ne-eqb i s n, or-bit d earlier s h) (a i ∙ sym (getD-set-other (bitsOf d earlier) s i true false n))
 
 -- modes whose bytes, times a scale, stand from a place on
 abbrev pub Scaled : (bytes : List ℕ) → (scale place : ℕ) → List Mode → Type 0
@@ -180,7 +179,6 @@ want-is Mode.lent = refl
 want-is Mode.owned = refl
 
 module _ (bytes : List ℕ) (slots : List Slot) (wide : length slots ≡ 32) (bound : ℕ) (few : bound ≤ 32) where
-
   fine-low : (i p : ℕ) (w : Want) (barred : Bool) (spent : ℕ) → eqb (takeOf slots bound i p w barred spent .number) 0 ≡ true → i < bound
   unfolding takeOf pick
   fine-low i p w barred spent h = go (leb bound i) refl h
@@ -189,7 +187,7 @@ module _ (bytes : List ℕ) (slots : List Slot) (wide : length slots ≡ 32) (bo
       go true e q = let z : _≡_ {A = ℕ} 0 1 = cc in absurd (omega arith)
       go false e q = leb-false bound i e
 
-  pub list-tells : (ms : List Mode) (ss : List ℕ) (scale modes at earlier spent : ℕ) (list : List ℕ) → Alike list earlier → Scaled bytes scale modes ms → Listed bytes at ss
+  pub list-tells : (ms : List Mode) (ss : List ℕ) (scale modes at earlier spent : ℕ) (list : List ℕ) → Alike 32 list earlier → Scaled bytes scale modes ms → Listed bytes at ss
       → length ss ≡ length ms
       → told slots bound (listOf bytes slots bound scale (length ms) modes at earlier spent) ≡ tree.pass list ms ss at (leftOf slots bound spent)
   unfolding listOf tree.pass
@@ -202,12 +200,12 @@ module _ (bytes : List ℕ) (slots : List Slot) (wide : length slots ≡ 32) (bo
       let t = takeOf slots bound i at w (barsOf w earlier i) spent in
       told-then slots bound t (listOf bytes slots bound scale (length ms) (modes + 1) (at + 1) (bitOr earlier (2 ^ i)) (t .spent)) (λ S. tree.pass (s ∷ list) ms ss (suc at) S)
       (λ q. let low = fine-low i at w (barsOf w earlier i) spent q in
-        rw (← add-one at, ← (l .0)) (list-tells ms ss scale (modes + 1) (at + 1) (bitOr earlier (2 ^ i)) (t .spent) (i ∷ list) (alike-with list earlier i (omega arith) a) (m .1) (l .1) (omega arith)))
+      rw (← add-one at, ← (l .0)) (list-tells ms ss scale (modes + 1) (at + 1) (bitOr earlier (2 ^ i)) (t .spent) (i ∷ list) (alike-with 32 list earlier i (omega arith) a) (m .1) (l .1) (omega arith)))
       ∙ ap (λ o. then o (λ S. tree.pass (s ∷ list) ms ss (suc at) S)) (taken x s m l)
     where
       taken : (y : Mode) (v : ℕ) → Scaled bytes scale modes (y ∷ ms) → Listed bytes at (v ∷ ss)
           → told slots bound (takeOf slots bound (byteAt bytes at) at (wantAt (byteAt bytes modes * scale)) (barsOf (wantAt (byteAt bytes modes * scale)) earlier (byteAt bytes at)) spent)
-              ≡ tree.take (tree.spends (tree.want y) && tree.member v list) (tree.want y) v at (leftOf slots bound spent)
+          ≡ tree.take (tree.spends (tree.want y) && tree.member v list) (tree.want y) v at (leftOf slots bound spent)
       taken y v m′ l′ =
           take-tells slots wide bound few (byteAt bytes at) at (wantAt (byteAt bytes modes * scale)) (barsOf (wantAt (byteAt bytes modes * scale)) earlier (byteAt bytes at)) spent
           ∙ rw (m′ .0, want-is y, ← (a (byteAt bytes at)), l′ .0)
@@ -232,6 +230,6 @@ close-tells t at slots bound = go (eqb (t .number) 0) refl
 
     go : (x : Bool) → eqb (t .number) 0 ≡ x
         → pick (eqb (pick (eqb (t .number) 0) (Rest (tree.leftover S)) t .number) 0) (ok tt) (refuse (pick (eqb (t .number) 0) (Rest (tree.leftover S)) t .number) (pick (eqb (t .number) 0) (Rest (tree.leftover S)) t .place))
-          ≡ then (pick (eqb (t .number) 0) (ok S) (refuse (t .number) (t .place))) (tree.done at)
+        ≡ then (pick (eqb (t .number) 0) (ok S) (refuse (t .number) (t .place))) (tree.done at)
     go true e = rw e (left (tree.leftover S))
     go false e = rw e (rw e refl)

@@ -24,12 +24,11 @@ use Rattle.checker.proofs.ownership.+check_branches+check_term.{stateme
 use Rattle.checker.proofs.ownership.+check_branches+check_term.Tie.{close}
 use native.Mathlib.Omega.{arith}
 use borrow.Author.Needs.{needs}
-use Prim.Native.Nat.{_-_, _+_, _*_, suc, _≤_}
-use mathlib.Core.Path.{_≡_, refl, sym, ap, _∙_, subst}
-use mathlib.Core.Bool.{true, false}
+use Prim.Native.Nat.{_-_, _+_}
+use mathlib.Core.Path.{sym, _∙_}
 use lib.ListN.{length}
-use Rattle.checker.proofs.ownership.Cycle.{ready-low, room, stops, made, leaf-judged, one-ready, one-less, one-judged, two-ready, two-less, two-stops, second-ready, second-less, two-judged, many-ready, many-less, many-judged}
-use Rattle.checker.proofs.ownership.Branching.{end-judged, branch-low, branch-twice, branch-stops, rest-ready, rest-less, branch-judged, Opened, bit-is, more-eq, opened-ready, opened-judged, rest-judged}
+use Rattle.checker.proofs.ownership.Cycle.{ready-low, node-room, node-stops, Made, made, leaf-judged, one-ready, one-less, one-judged, two-ready, two-less, two-stops, second-ready, second-less, two-judged, many-ready, many-less, many-judged}
+use Rattle.checker.proofs.ownership.Branching.{end-judged, branch-low, branch-twice, Opened, more-fits, term-ready, branch-stops, rest-ready, rest-less, branch-judged}
 
 abbrev μ-check-branches : Measures 2 check-branches-kinds.ps ℕ
 μ-check-branches κs a = length (a .0 .now) - a .1 .1 .0
@@ -67,29 +66,49 @@ check-branches-calls t = (byte-reads.Asked, byte-reads.Learnt, sees-reads.Asked,
 abbrev check-term-calls : ℕ → check-term-lts.Claims
 check-term-calls t = (mark-reads.Asked, mark-reads.Learnt, take-record-reads.Asked, take-record-reads.Learnt, binds-reads.Asked, binds-reads.Learnt, bound-kind-reads.Asked, bound-kind-reads.Learnt, keep-reads.Asked, keep-reads.Learnt, follows-reads.Asked, follows-reads.Learnt, check-term-below t, check-term.Post, check-branches-below t, check-branches.Post)
 
+-- what the code has made of a node whose record was taken
+node-made : (t : ℕ) (c : check-term-lts.After-follows (check-term-calls t) (check-term-at t) check-term.Post)
+    → let a = c .before .before .before .before .before .before .before .before .before .args in
+    Made (a .file .now) (a .decl .now) (a .at) (a .result) (a .slots) (a .bound) (c .before .before .before .before .before .before .before .mark .result) (c .before .before .before .before .before .before .take-record .result) (a .bound + c .before .before .before .binds .result) (c .before .keep .result) (c .follows .result)
+node-made t c = made (c .before .before .before .before .before .before .before .before .before .good .1 .1 .1 .1 .0 .1 .0 .1) (c .before .before .before .before .before .before .before .mark .ensures) (c .before .before .before .before .before .before .take-record .ensures) (c .before .before .before .before .if1 .left) (c .before .before .before .binds .ensures .0) (c .before .before .bound-kind .ensures) (c .before .keep .ensures) (c .follows .ensures)
+
+-- what the code has made of a branch whose constructor is new
+branch-made : (t : ℕ) (c : check-branches-lts.After-credits (check-branches-calls t) (check-branches-at t) check-branches.Post)
+    → let a = c .before .before .before .before .before .before .before .before .args in
+    Opened (a .file .now) (a .decl .now) (a .at) (a .left) (a .credit) (a .seen) (a .slots) (a .bound) (c .before .before .before .before .before .byte .result) (c .before .before .arity .result) (c .credits .result) (c .before .branch-slots .result)
+branch-made t c = record {
+  wide = c .before .before .before .before .before .before .before .before .good .1 .1 .1 .1 .1 .1 .1 .0 .1 .0 .1;
+  some = c .before .before .before .before .before .before .if1 .left;
+  con = c .before .before .before .before .before .byte .ensures .0;
+  new = sym (c .before .before .before .before .sees .ensures) ∙ c .before .before .before .if2 .left;
+  arity = c .before .before .arity .ensures .0;
+  kept = c .before .branch-slots .ensures;
+  extra = c .credits .ensures;
+}
+
 check-branches-returns : (t : ℕ) → check-branches-lts.Need-returns (check-branches-calls t) (check-branches-at t) check-branches.Post
-check-branches-returns t c = end-judged (c .before .before .args .file .now) (c .before .before .args .decl .now) (c .before .before .args .at) (c .before .before .args .left) (c .before .before .args .credit) (c .before .before .args .result) (c .before .before .args .slots) (c .before .before .good .1 .1 .1 .1 .1 .1 .1 .0 .1 .0 .1) (c .before .before .args .bound) _ (c .if1 .taken)
+check-branches-returns t c = end-judged (c .if1 .taken)
 
 check-branches-add-byte : (t : ℕ) → check-branches-lts.Need-add-byte (check-branches-calls t) (check-branches-at t) check-branches.Post
-check-branches-add-byte t c = let low = branch-low (c .before .before .args .file .now) (c .before .before .args .decl .now) (c .before .before .args .at) (c .before .before .args .left) (c .before .before .args .credit) (c .before .before .args .result) (c .before .before .args .slots) (c .before .before .good .1 .1 .1 .1 .1 .1 .1 .0 .1 .0 .1) (c .before .before .args .bound) (c .if1 .left) (c .before .before .pre .1) in omega (arith, low .0)
+check-branches-add-byte t c = let low = branch-low (c .if1 .left) (c .before .before .pre .1) in omega (arith, low .0)
 
 check-branches-byte-requires : (t : ℕ) → check-branches-lts.Need-byte-requires (check-branches-calls t) (check-branches-at t) check-branches.Post
 check-branches-byte-requires t c κs = search needs
 
 check-branches-sees-requires : (t : ℕ) → check-branches-lts.Need-sees-requires (check-branches-calls t) (check-branches-at t) check-branches.Post
-check-branches-sees-requires t c κs = let low = branch-low (c .before .before .before .args .file .now) (c .before .before .before .args .decl .now) (c .before .before .before .args .at) (c .before .before .before .args .left) (c .before .before .before .args .credit) (c .before .before .before .args .result) (c .before .before .before .args .slots) (c .before .before .before .good .1 .1 .1 .1 .1 .1 .1 .0 .1 .0 .1) (c .before .before .before .args .bound) (c .before .if1 .left) (c .before .before .before .pre .1) in rw (c .byte .ensures .0) (low .2)
+check-branches-sees-requires t c κs = let low = branch-low (c .before .if1 .left) (c .before .before .before .pre .1) in rw (c .byte .ensures .0) (low .2)
 
 check-branches-add-t20 : (t : ℕ) → check-branches-lts.Need-add-t20 (check-branches-calls t) (check-branches-at t) check-branches.Post
-check-branches-add-t20 t c = let low = branch-low (c .before .before .before .before .before .args .file .now) (c .before .before .before .before .before .args .decl .now) (c .before .before .before .before .before .args .at) (c .before .before .before .before .before .args .left) (c .before .before .before .before .before .args .credit) (c .before .before .before .before .before .args .result) (c .before .before .before .before .before .args .slots) (c .before .before .before .before .before .good .1 .1 .1 .1 .1 .1 .1 .0 .1 .0 .1) (c .before .before .before .before .before .args .bound) (c .before .before .before .if1 .left) (c .before .before .before .before .before .pre .1) in omega (arith, low .0)
+check-branches-add-t20 t c = let low = branch-low (c .before .before .before .if1 .left) (c .before .before .before .before .before .pre .1) in omega (arith, low .0)
 
 check-branches-returns-2 : (t : ℕ) → check-branches-lts.Need-returns-2 (check-branches-calls t) (check-branches-at t) check-branches.Post
-check-branches-returns-2 t c = branch-twice (c .before .before .before .before .before .args .file .now) (c .before .before .before .before .before .args .decl .now) (c .before .before .before .before .before .args .at) (c .before .before .before .before .before .args .left) (c .before .before .before .before .before .args .credit) (c .before .before .before .before .before .args .result) (c .before .before .before .before .before .args .slots) (c .before .before .before .before .before .good .1 .1 .1 .1 .1 .1 .1 .0 .1 .0 .1) (c .before .before .before .before .before .args .bound) (c .before .before .before .if1 .left) _ (bit-is (c .before .before .before .before .before .args .file .now) (c .before .before .before .before .before .args .decl .now) (c .before .before .before .before .before .args .at) (c .before .before .before .before .before .args .left) (c .before .before .before .before .before .args .credit) (c .before .before .before .before .before .args .result) (c .before .before .before .before .before .args .slots) (c .before .before .before .before .before .good .1 .1 .1 .1 .1 .1 .1 .0 .1 .0 .1) (c .before .before .before .before .before .args .bound) (c .before .before .byte .result) (c .before .before .before .before .before .args .seen) _ true (c .before .before .byte .ensures .0) (c .before .sees .ensures) (c .if2 .taken))
+check-branches-returns-2 t c = branch-twice (c .before .before .before .before .before .good .1 .1 .1 .1 .1 .1 .1 .0 .1 .0 .1) (c .before .before .before .if1 .left) (c .before .before .byte .ensures .0) (sym (c .before .sees .ensures) ∙ c .if2 .taken)
 
 check-branches-arity-requires : (t : ℕ) → check-branches-lts.Need-arity-requires (check-branches-calls t) (check-branches-at t) check-branches.Post
 check-branches-arity-requires t c κs = c .before .before .before .before .before .pre .1 .declared .wide
 
 check-branches-branch-slots-requires : (t : ℕ) → check-branches-lts.Need-branch-slots-requires (check-branches-calls t) (check-branches-at t) check-branches.Post
-check-branches-branch-slots-requires t c κs = let low = branch-low (c .before .before .before .before .before .before .args .file .now) (c .before .before .before .before .before .before .args .decl .now) (c .before .before .before .before .before .before .args .at) (c .before .before .before .before .before .before .args .left) (c .before .before .before .before .before .before .args .credit) (c .before .before .before .before .before .before .args .result) (c .before .before .before .before .before .before .args .slots) (c .before .before .before .before .before .before .good .1 .1 .1 .1 .1 .1 .1 .0 .1 .0 .1) (c .before .before .before .before .before .before .args .bound) (c .before .before .before .before .if1 .left) (c .before .before .before .before .before .before .pre .1) in (c .before .before .before .byte .ensures .1, low .1, low .4, rw (c .before .before .before .byte .ensures .0) (low .3), c .before .before .before .before .before .before .pre .1 .declared .wide)
+check-branches-branch-slots-requires t c κs = let low = branch-low (c .before .before .before .before .if1 .left) (c .before .before .before .before .before .before .pre .1) in (c .before .before .before .byte .ensures .1, low .1, low .4, rw (c .before .before .before .byte .ensures .0) (low .3), c .before .before .before .before .before .before .pre .1 .declared .wide)
 
 check-branches-add-more : (t : ℕ) → check-branches-lts.Need-add-more (check-branches-calls t) (check-branches-at t) check-branches.Post
 check-branches-add-more t c = omega (arith, c .before .before .before .before .before .before .before .pre .1 .few, c .before .arity .ensures .1)
@@ -98,13 +117,13 @@ check-branches-credits-requires : (t : ℕ) → check-branches-lts.Need-credits-
 check-branches-credits-requires t c κs = search needs
 
 check-branches-add-more-2 : (t : ℕ) → check-branches-lts.Need-add-more-2 (check-branches-calls t) (check-branches-at t) check-branches.Post
-check-branches-add-more-2 t c = let low = branch-low (c .before .before .before .before .before .before .before .before .args .file .now) (c .before .before .before .before .before .before .before .before .args .decl .now) (c .before .before .before .before .before .before .before .before .args .at) (c .before .before .before .before .before .before .before .before .args .left) (c .before .before .before .before .before .before .before .before .args .credit) (c .before .before .before .before .before .before .before .before .args .result) (c .before .before .before .before .before .before .before .before .args .slots) (c .before .before .before .before .before .before .before .before .good .1 .1 .1 .1 .1 .1 .1 .0 .1 .0 .1) (c .before .before .before .before .before .before .before .before .args .bound) (c .before .before .before .before .before .before .if1 .left) (c .before .before .before .before .before .before .before .before .pre .1) in let o : Opened (c .before .before .before .before .before .before .before .before .args .file .now) (c .before .before .before .before .before .before .before .before .args .decl .now) (c .before .before .before .before .before .before .before .before .args .at) (c .before .before .before .before .before .before .before .before .args .left) (c .before .before .before .before .before .before .before .before .args .credit) (c .before .before .before .before .before .before .before .before .args .result) (c .before .before .before .before .before .before .before .before .args .slots) (c .before .before .before .before .before .before .before .before .good .1 .1 .1 .1 .1 .1 .1 .0 .1 .0 .1) (c .before .before .before .before .before .before .before .before .args .bound) (c .before .before .before .before .before .byte .result) (c .before .before .arity .result) (c .credits .result) (c .before .branch-slots .result) = record { con = c .before .before .before .before .before .byte .ensures .0; arity = c .before .before .arity .ensures .0; extra = c .credits .ensures; kept = c .before .branch-slots .ensures } in omega (arith, low .3, more-eq (c .before .before .before .before .before .before .before .before .args .file .now) (c .before .before .before .before .before .before .before .before .args .decl .now) (c .before .before .before .before .before .before .before .before .args .at) (c .before .before .before .before .before .before .before .before .args .left) (c .before .before .before .before .before .before .before .before .args .credit) (c .before .before .before .before .before .before .before .before .args .result) (c .before .before .before .before .before .before .before .before .args .slots) (c .before .before .before .before .before .before .before .before .good .1 .1 .1 .1 .1 .1 .1 .0 .1 .0 .1) (c .before .before .before .before .before .before .before .before .args .bound) o)
+check-branches-add-more-2 t c = omega (arith, more-fits (branch-made t (c)) (c .before .before .before .before .before .before .before .before .pre .1))
 
 check-branches-add-check-term : (t : ℕ) → check-branches-lts.Need-add-check-term (check-branches-calls t) (check-branches-at t) check-branches.Post
-check-branches-add-check-term t c = let low = branch-low (c .before .before .before .before .before .before .before .before .args .file .now) (c .before .before .before .before .before .before .before .before .args .decl .now) (c .before .before .before .before .before .before .before .before .args .at) (c .before .before .before .before .before .before .before .before .args .left) (c .before .before .before .before .before .before .before .before .args .credit) (c .before .before .before .before .before .before .before .before .args .result) (c .before .before .before .before .before .before .before .before .args .slots) (c .before .before .before .before .before .before .before .before .good .1 .1 .1 .1 .1 .1 .1 .0 .1 .0 .1) (c .before .before .before .before .before .before .before .before .args .bound) (c .before .before .before .before .before .before .if1 .left) (c .before .before .before .before .before .before .before .before .pre .1) in omega (arith, low .0)
+check-branches-add-check-term t c = let low = branch-low (c .before .before .before .before .before .before .if1 .left) (c .before .before .before .before .before .before .before .before .pre .1) in omega (arith, low .0)
 
 check-branches-check-term-requires : (t : ℕ) → check-branches-lts.Need-check-term-requires (check-branches-calls t) (check-branches-at t) check-branches.Post
-check-branches-check-term-requires t c κs = let low = branch-low (c .before .before .before .before .before .before .before .before .args .file .now) (c .before .before .before .before .before .before .before .before .args .decl .now) (c .before .before .before .before .before .before .before .before .args .at) (c .before .before .before .before .before .before .before .before .args .left) (c .before .before .before .before .before .before .before .before .args .credit) (c .before .before .before .before .before .before .before .before .args .result) (c .before .before .before .before .before .before .before .before .args .slots) (c .before .before .before .before .before .before .before .before .good .1 .1 .1 .1 .1 .1 .1 .0 .1 .0 .1) (c .before .before .before .before .before .before .before .before .args .bound) (c .before .before .before .before .before .before .if1 .left) (c .before .before .before .before .before .before .before .before .pre .1) in let o : Opened (c .before .before .before .before .before .before .before .before .args .file .now) (c .before .before .before .before .before .before .before .before .args .decl .now) (c .before .before .before .before .before .before .before .before .args .at) (c .before .before .before .before .before .before .before .before .args .left) (c .before .before .before .before .before .before .before .before .args .credit) (c .before .before .before .before .before .before .before .before .args .result) (c .before .before .before .before .before .before .before .before .args .slots) (c .before .before .before .before .before .before .before .before .good .1 .1 .1 .1 .1 .1 .1 .0 .1 .0 .1) (c .before .before .before .before .before .before .before .before .args .bound) (c .before .before .before .before .before .byte .result) (c .before .before .arity .result) (c .credits .result) (c .before .branch-slots .result) = record { con = c .before .before .before .before .before .byte .ensures .0; arity = c .before .before .arity .ensures .0; extra = c .credits .ensures; kept = c .before .branch-slots .ensures } in (omega (arith, low .0), opened-ready (c .before .before .before .before .before .before .before .before .args .file .now) (c .before .before .before .before .before .before .before .before .args .decl .now) (c .before .before .before .before .before .before .before .before .args .at) (c .before .before .before .before .before .before .before .before .args .left) (c .before .before .before .before .before .before .before .before .args .credit) (c .before .before .before .before .before .before .before .before .args .result) (c .before .before .before .before .before .before .before .before .args .slots) (c .before .before .before .before .before .before .before .before .good .1 .1 .1 .1 .1 .1 .1 .0 .1 .0 .1) (c .before .before .before .before .before .before .before .before .args .bound) o (c .before .before .before .before .before .before .if1 .left) (c .before .before .before .before .before .before .before .before .pre .1))
+check-branches-check-term-requires t c κs = let low = branch-low (c .before .before .before .before .before .before .if1 .left) (c .before .before .before .before .before .before .before .before .pre .1) in (omega (arith, low .0), term-ready (branch-made t (c)) (c .before .before .before .before .before .before .before .before .pre .1))
 
 check-branches-enum-known-next : (t : ℕ) → check-branches-lts.Need-enum-known-next (check-branches-calls t) (check-branches-at t) check-branches.Post
 check-branches-enum-known-next t c = search needs
@@ -113,28 +132,28 @@ check-branches-sub-check-branches : (t : ℕ) → check-branches-lts.Need-sub-ch
 check-branches-sub-check-branches t c = omega arith
 
 check-branches-seeing-requires : (t : ℕ) → check-branches-lts.Need-seeing-requires (check-branches-calls t) (check-branches-at t) check-branches.Post
-check-branches-seeing-requires t c κs = let low = branch-low (c .before .before .before .before .before .before .before .before .before .before .before .before .args .file .now) (c .before .before .before .before .before .before .before .before .before .before .before .before .args .decl .now) (c .before .before .before .before .before .before .before .before .before .before .before .before .args .at) (c .before .before .before .before .before .before .before .before .before .before .before .before .args .left) (c .before .before .before .before .before .before .before .before .before .before .before .before .args .credit) (c .before .before .before .before .before .before .before .before .before .before .before .before .args .result) (c .before .before .before .before .before .before .before .before .before .before .before .before .args .slots) (c .before .before .before .before .before .before .before .before .before .before .before .before .good .1 .1 .1 .1 .1 .1 .1 .0 .1 .0 .1) (c .before .before .before .before .before .before .before .before .before .before .before .before .args .bound) (c .before .before .before .before .before .before .before .before .before .before .if1 .left) (c .before .before .before .before .before .before .before .before .before .before .before .before .pre .1) in rw (c .before .before .before .before .before .before .before .before .before .byte .ensures .0) (low .2)
+check-branches-seeing-requires t c κs = let low = branch-low (c .before .before .before .before .before .before .before .before .before .before .if1 .left) (c .before .before .before .before .before .before .before .before .before .before .before .before .pre .1) in rw (c .before .before .before .before .before .before .before .before .before .byte .ensures .0) (low .2)
 
 check-branches-check-branches-requires : (t : ℕ) → check-branches-lts.Need-check-branches-requires (check-branches-calls t) (check-branches-at t) check-branches.Post
-check-branches-check-branches-requires t c κs = let low = branch-low (c .before .before .before .before .before .before .before .before .before .before .before .before .before .args .file .now) (c .before .before .before .before .before .before .before .before .before .before .before .before .before .args .decl .now) (c .before .before .before .before .before .before .before .before .before .before .before .before .before .args .at) (c .before .before .before .before .before .before .before .before .before .before .before .before .before .args .left) (c .before .before .before .before .before .before .before .before .before .before .before .before .before .args .credit) (c .before .before .before .before .before .before .before .before .before .before .before .before .before .args .result) (c .before .before .before .before .before .before .before .before .before .before .before .before .before .args .slots) (c .before .before .before .before .before .before .before .before .before .before .before .before .before .good .1 .1 .1 .1 .1 .1 .1 .0 .1 .0 .1) (c .before .before .before .before .before .before .before .before .before .before .before .before .before .args .bound) (c .before .before .before .before .before .before .before .before .before .before .before .if1 .left) (c .before .before .before .before .before .before .before .before .before .before .before .before .before .pre .1) in let o : Opened (c .before .before .before .before .before .before .before .before .before .before .before .before .before .args .file .now) (c .before .before .before .before .before .before .before .before .before .before .before .before .before .args .decl .now) (c .before .before .before .before .before .before .before .before .before .before .before .before .before .args .at) (c .before .before .before .before .before .before .before .before .before .before .before .before .before .args .left) (c .before .before .before .before .before .before .before .before .before .before .before .before .before .args .credit) (c .before .before .before .before .before .before .before .before .before .before .before .before .before .args .result) (c .before .before .before .before .before .before .before .before .before .before .before .before .before .args .slots) (c .before .before .before .before .before .before .before .before .before .before .before .before .before .good .1 .1 .1 .1 .1 .1 .1 .0 .1 .0 .1) (c .before .before .before .before .before .before .before .before .before .before .before .before .before .args .bound) (c .before .before .before .before .before .before .before .before .before .before .byte .result) (c .before .before .before .before .before .before .before .arity .result) (c .before .before .before .before .before .credits .result) (c .before .before .before .before .before .before .branch-slots .result) = record { con = c .before .before .before .before .before .before .before .before .before .before .byte .ensures .0; arity = c .before .before .before .before .before .before .before .arity .ensures .0; extra = c .before .before .before .before .before .credits .ensures; kept = c .before .before .before .before .before .before .branch-slots .ensures } in let j = (opened-judged (c .before .before .before .before .before .before .before .before .before .before .before .before .before .args .file .now) (c .before .before .before .before .before .before .before .before .before .before .before .before .before .args .decl .now) (c .before .before .before .before .before .before .before .before .before .before .before .before .before .args .at) (c .before .before .before .before .before .before .before .before .before .before .before .before .before .args .left) (c .before .before .before .before .before .before .before .before .before .before .before .before .before .args .credit) (c .before .before .before .before .before .before .before .before .before .before .before .before .before .args .result) (c .before .before .before .before .before .before .before .before .before .before .before .before .before .args .slots) (c .before .before .before .before .before .before .before .before .before .before .before .before .before .good .1 .1 .1 .1 .1 .1 .1 .0 .1 .0 .1) (c .before .before .before .before .before .before .before .before .before .before .before .before .before .args .bound) o (c .before .before .before .before .check-term .ensures)) in (omega (arith, low .0, rest-less (c .before .before .before .before .before .before .before .before .before .before .before .before .before .args .file .now) (c .before .before .before .before .before .before .before .before .before .before .before .before .before .args .decl .now) (c .before .before .before .before .before .before .before .before .before .before .before .before .before .args .at) (c .before .before .before .before .before .before .before .before .before .before .before .before .before .args .left) (c .before .before .before .before .before .before .before .before .before .before .before .before .before .args .credit) (c .before .before .before .before .before .before .before .before .before .before .before .before .before .args .result) (c .before .before .before .before .before .before .before .before .before .before .before .before .before .args .slots) (c .before .before .before .before .before .before .before .before .before .before .before .before .before .good .1 .1 .1 .1 .1 .1 .1 .0 .1 .0 .1) (c .before .before .before .before .before .before .before .before .before .before .before .before .before .args .bound) (c .before .before .before .before .before .before .before .before .before .before .before .if1 .left) j (c .before .before .next .given .1) (c .before .before .before .before .before .before .before .before .before .before .before .before .before .pre .1)), rest-ready (c .before .before .before .before .before .before .before .before .before .before .before .before .before .args .file .now) (c .before .before .before .before .before .before .before .before .before .before .before .before .before .args .decl .now) (c .before .before .before .before .before .before .before .before .before .before .before .before .before .args .at) (c .before .before .before .before .before .before .before .before .before .before .before .before .before .args .left) (c .before .before .before .before .before .before .before .before .before .before .before .before .before .args .credit) (c .before .before .before .before .before .before .before .before .before .before .before .before .before .args .result) (c .before .before .before .before .before .before .before .before .before .before .before .before .before .args .slots) (c .before .before .before .before .before .before .before .before .before .before .before .before .before .good .1 .1 .1 .1 .1 .1 .1 .0 .1 .0 .1) (c .before .before .before .before .before .before .before .before .before .before .before .before .before .args .bound) (c .before .before .before .before .before .before .before .before .before .before .before .if1 .left) j (c .before .before .next .given .1) (c .before .before .before .before .before .before .before .before .before .before .before .before .before .pre .1))
+check-branches-check-branches-requires t c κs = let low = branch-low (c .before .before .before .before .before .before .before .before .before .before .before .if1 .left) (c .before .before .before .before .before .before .before .before .before .before .before .before .before .pre .1) in let o = (branch-made t (c .before .before .before .before .before)) in let g = c .before .before .before .before .before .before .before .before .before .before .before .before .before .pre .1 in (omega (arith, low .0, rest-less o (c .before .before .before .before .check-term .ensures) (c .before .before .next .given .1) g), rest-ready o (c .before .before .before .before .check-term .ensures) (c .before .before .next .given .1) g)
 
 check-branches-enum-known-number : (t : ℕ) → check-branches-lts.Need-enum-known-number (check-branches-calls t) (check-branches-at t) check-branches.Post
 check-branches-enum-known-number t c = search needs
 
 check-branches-returns-3 : (t : ℕ) → check-branches-lts.Need-returns-3 (check-branches-calls t) (check-branches-at t) check-branches.Post
-check-branches-returns-3 t c = let o : Opened (c .before .before .before .before .before .before .before .before .before .before .before .before .before .before .args .file .now) (c .before .before .before .before .before .before .before .before .before .before .before .before .before .before .args .decl .now) (c .before .before .before .before .before .before .before .before .before .before .before .before .before .before .args .at) (c .before .before .before .before .before .before .before .before .before .before .before .before .before .before .args .left) (c .before .before .before .before .before .before .before .before .before .before .before .before .before .before .args .credit) (c .before .before .before .before .before .before .before .before .before .before .before .before .before .before .args .result) (c .before .before .before .before .before .before .before .before .before .before .before .before .before .before .args .slots) (c .before .before .before .before .before .before .before .before .before .before .before .before .before .before .good .1 .1 .1 .1 .1 .1 .1 .0 .1 .0 .1) (c .before .before .before .before .before .before .before .before .before .before .before .before .before .before .args .bound) (c .before .before .before .before .before .before .before .before .before .before .before .byte .result) (c .before .before .before .before .before .before .before .before .arity .result) (c .before .before .before .before .before .before .credits .result) (c .before .before .before .before .before .before .before .branch-slots .result) = record { con = c .before .before .before .before .before .before .before .before .before .before .before .byte .ensures .0; arity = c .before .before .before .before .before .before .before .before .arity .ensures .0; extra = c .before .before .before .before .before .before .credits .ensures; kept = c .before .before .before .before .before .before .before .branch-slots .ensures } in branch-judged (c .before .before .before .before .before .before .before .before .before .before .before .before .before .before .args .file .now) (c .before .before .before .before .before .before .before .before .before .before .before .before .before .before .args .decl .now) (c .before .before .before .before .before .before .before .before .before .before .before .before .before .before .args .at) (c .before .before .before .before .before .before .before .before .before .before .before .before .before .before .args .left) (c .before .before .before .before .before .before .before .before .before .before .before .before .before .before .args .credit) (c .before .before .before .before .before .before .before .before .before .before .before .before .before .before .args .result) (c .before .before .before .before .before .before .before .before .before .before .before .before .before .before .args .slots) (c .before .before .before .before .before .before .before .before .before .before .before .before .before .before .good .1 .1 .1 .1 .1 .1 .1 .0 .1 .0 .1) (c .before .before .before .before .before .before .before .before .before .before .before .before .before .before .args .bound) (c .before .before .before .before .before .before .before .before .before .before .before .before .if1 .left) (opened-judged (c .before .before .before .before .before .before .before .before .before .before .before .before .before .before .args .file .now) (c .before .before .before .before .before .before .before .before .before .before .before .before .before .before .args .decl .now) (c .before .before .before .before .before .before .before .before .before .before .before .before .before .before .args .at) (c .before .before .before .before .before .before .before .before .before .before .before .before .before .before .args .left) (c .before .before .before .before .before .before .before .before .before .before .before .before .before .before .args .credit) (c .before .before .before .before .before .before .before .before .before .before .before .before .before .before .args .result) (c .before .before .before .before .before .before .before .before .before .before .before .before .before .before .args .slots) (c .before .before .before .before .before .before .before .before .before .before .before .before .before .before .good .1 .1 .1 .1 .1 .1 .1 .0 .1 .0 .1) (c .before .before .before .before .before .before .before .before .before .before .before .before .before .before .args .bound) o (c .before .before .before .before .before .check-term .ensures)) _ (bit-is (c .before .before .before .before .before .before .before .before .before .before .before .before .before .before .args .file .now) (c .before .before .before .before .before .before .before .before .before .before .before .before .before .before .args .decl .now) (c .before .before .before .before .before .before .before .before .before .before .before .before .before .before .args .at) (c .before .before .before .before .before .before .before .before .before .before .before .before .before .before .args .left) (c .before .before .before .before .before .before .before .before .before .before .before .before .before .before .args .credit) (c .before .before .before .before .before .before .before .before .before .before .before .before .before .before .args .result) (c .before .before .before .before .before .before .before .before .before .before .before .before .before .before .args .slots) (c .before .before .before .before .before .before .before .before .before .before .before .before .before .before .good .1 .1 .1 .1 .1 .1 .1 .0 .1 .0 .1) (c .before .before .before .before .before .before .before .before .before .before .before .before .before .before .args .bound) (c .before .before .before .before .before .before .before .before .before .before .before .byte .result) (c .before .before .before .before .before .before .before .before .before .before .before .before .before .before .args .seen) _ false (c .before .before .before .before .before .before .before .before .before .before .before .byte .ensures .0) (c .before .before .before .before .before .before .before .before .before .before .sees .ensures) (c .before .before .before .before .before .before .before .before .before .if2 .left)) (c .before .before .before .next .given .1) (rest-judged (c .before .before .before .before .before .before .before .before .before .before .before .before .before .before .args .file .now) (c .before .before .before .before .before .before .before .before .before .before .before .before .before .before .args .decl .now) (c .before .before .before .before .before .before .before .before .before .before .before .before .before .before .args .at) (c .before .before .before .before .before .before .before .before .before .before .before .before .before .before .args .left) (c .before .before .before .before .before .before .before .before .before .before .before .before .before .before .args .credit) (c .before .before .before .before .before .before .before .before .before .before .before .before .before .before .args .result) (c .before .before .before .before .before .before .before .before .before .before .before .before .before .before .args .slots) (c .before .before .before .before .before .before .before .before .before .before .before .before .before .before .good .1 .1 .1 .1 .1 .1 .1 .0 .1 .0 .1) (c .before .before .before .before .before .before .before .before .before .before .before .before .before .before .args .bound) o (c .before .before .before .before .before .before .before .before .before .before .before .before .before .before .args .seen) _ _ _ (c .before .seeing .ensures) (c .check-branches .ensures))
+check-branches-returns-3 t c = branch-judged (branch-made t (c .before .before .before .before .before .before)) (c .before .before .before .before .before .check-term .ensures) (c .before .before .before .next .given .1) (c .before .seeing .ensures) (c .check-branches .ensures)
 
 check-branches-returns-4 : (t : ℕ) → check-branches-lts.Need-returns-4 (check-branches-calls t) (check-branches-at t) check-branches.Post
-check-branches-returns-4 t c = let o : Opened (c .before .before .before .before .before .before .before .before .before .before .before .before .args .file .now) (c .before .before .before .before .before .before .before .before .before .before .before .before .args .decl .now) (c .before .before .before .before .before .before .before .before .before .before .before .before .args .at) (c .before .before .before .before .before .before .before .before .before .before .before .before .args .left) (c .before .before .before .before .before .before .before .before .before .before .before .before .args .credit) (c .before .before .before .before .before .before .before .before .before .before .before .before .args .result) (c .before .before .before .before .before .before .before .before .before .before .before .before .args .slots) (c .before .before .before .before .before .before .before .before .before .before .before .before .good .1 .1 .1 .1 .1 .1 .1 .0 .1 .0 .1) (c .before .before .before .before .before .before .before .before .before .before .before .before .args .bound) (c .before .before .before .before .before .before .before .before .before .byte .result) (c .before .before .before .before .before .before .arity .result) (c .before .before .before .before .credits .result) (c .before .before .before .before .before .branch-slots .result) = record { con = c .before .before .before .before .before .before .before .before .before .byte .ensures .0; arity = c .before .before .before .before .before .before .arity .ensures .0; extra = c .before .before .before .before .credits .ensures; kept = c .before .before .before .before .before .branch-slots .ensures } in branch-stops (c .before .before .before .before .before .before .before .before .before .before .before .before .args .file .now) (c .before .before .before .before .before .before .before .before .before .before .before .before .args .decl .now) (c .before .before .before .before .before .before .before .before .before .before .before .before .args .at) (c .before .before .before .before .before .before .before .before .before .before .before .before .args .left) (c .before .before .before .before .before .before .before .before .before .before .before .before .args .credit) (c .before .before .before .before .before .before .before .before .before .before .before .before .args .result) (c .before .before .before .before .before .before .before .before .before .before .before .before .args .slots) (c .before .before .before .before .before .before .before .before .before .before .before .before .good .1 .1 .1 .1 .1 .1 .1 .0 .1 .0 .1) (c .before .before .before .before .before .before .before .before .before .before .before .before .args .bound) (c .before .before .before .before .before .before .before .before .before .before .if1 .left) (opened-judged (c .before .before .before .before .before .before .before .before .before .before .before .before .args .file .now) (c .before .before .before .before .before .before .before .before .before .before .before .before .args .decl .now) (c .before .before .before .before .before .before .before .before .before .before .before .before .args .at) (c .before .before .before .before .before .before .before .before .before .before .before .before .args .left) (c .before .before .before .before .before .before .before .before .before .before .before .before .args .credit) (c .before .before .before .before .before .before .before .before .before .before .before .before .args .result) (c .before .before .before .before .before .before .before .before .before .before .before .before .args .slots) (c .before .before .before .before .before .before .before .before .before .before .before .before .good .1 .1 .1 .1 .1 .1 .1 .0 .1 .0 .1) (c .before .before .before .before .before .before .before .before .before .before .before .before .args .bound) o (c .before .before .before .check-term .ensures)) _ (bit-is (c .before .before .before .before .before .before .before .before .before .before .before .before .args .file .now) (c .before .before .before .before .before .before .before .before .before .before .before .before .args .decl .now) (c .before .before .before .before .before .before .before .before .before .before .before .before .args .at) (c .before .before .before .before .before .before .before .before .before .before .before .before .args .left) (c .before .before .before .before .before .before .before .before .before .before .before .before .args .credit) (c .before .before .before .before .before .before .before .before .before .before .before .before .args .result) (c .before .before .before .before .before .before .before .before .before .before .before .before .args .slots) (c .before .before .before .before .before .before .before .before .before .before .before .before .good .1 .1 .1 .1 .1 .1 .1 .0 .1 .0 .1) (c .before .before .before .before .before .before .before .before .before .before .before .before .args .bound) (c .before .before .before .before .before .before .before .before .before .byte .result) (c .before .before .before .before .before .before .before .before .before .before .before .before .args .seen) _ false (c .before .before .before .before .before .before .before .before .before .byte .ensures .0) (c .before .before .before .before .before .before .before .before .sees .ensures) (c .before .before .before .before .before .before .before .if2 .left)) (c .before .number .given .1)
+check-branches-returns-4 t c = branch-stops (branch-made t (c .before .before .before .before)) (c .before .before .before .check-term .ensures) (c .before .number .given .1)
 
 check-term-mark-requires : (t : ℕ) → check-term-lts.Need-mark-requires (check-term-calls t) (check-term-at t) check-term.Post
 check-term-mark-requires t c κs = ready-low (c .before .pre .1) .1
 
 check-term-take-record-requires : (t : ℕ) → check-term-lts.Need-take-record-requires (check-term-calls t) (check-term-at t) check-term.Post
-check-term-take-record-requires t c κs = (c .before .before .pre .1 .few, ready-low (c .before .before .pre .1) .1, c .before .before .pre .1 .declared .wide)
+check-term-take-record-requires t c κs = let g = c .before .before .pre .1 in (g .few, ready-low g .1, g .declared .wide)
 
 check-term-returns : (t : ℕ) → check-term-lts.Need-returns (check-term-calls t) (check-term-at t) check-term.Post
-check-term-returns t c = stops (c .before .before .before .before .before .args .file .now) (c .before .before .before .before .before .args .decl .now) (c .before .before .before .before .before .args .at) (c .before .before .before .before .before .args .result) (c .before .before .before .before .before .args .slots) (c .before .before .before .before .before .good .1 .1 .1 .1 .0 .1 .0 .1) (c .before .before .before .before .before .args .bound) (c .before .before .before .mark .ensures) (c .before .before .take-record .ensures) (c .if1 .taken)
+check-term-returns t c = node-stops (c .before .before .before .before .before .good .1 .1 .1 .1 .0 .1 .0 .1) (c .before .before .before .mark .ensures) (c .before .before .take-record .ensures) (c .if1 .taken)
 
 check-term-binds-requires : (t : ℕ) → check-term-lts.Need-binds-requires (check-term-calls t) (check-term-at t) check-term.Post
 check-term-binds-requires t c κs = search needs
@@ -143,13 +162,13 @@ check-term-add-more : (t : ℕ) → check-term-lts.Need-add-more (check-term-cal
 check-term-add-more t c = omega (arith, c .before .before .before .before .before .before .pre .1 .few, c .binds .ensures .1)
 
 check-term-bound-kind-requires : (t : ℕ) → check-term-lts.Need-bound-kind-requires (check-term-calls t) (check-term-at t) check-term.Post
-check-term-bound-kind-requires t c κs = (ready-low (c .before .before .before .before .before .before .pre .1) .1, c .before .before .before .before .before .before .pre .1 .declared .wide)
+check-term-bound-kind-requires t c κs = let g = c .before .before .before .before .before .before .pre .1 in (ready-low g .1, g .declared .wide)
 
 check-term-keep-requires : (t : ℕ) → check-term-lts.Need-keep-requires (check-term-calls t) (check-term-at t) check-term.Post
-check-term-keep-requires t c κs = (room (c .before .before .before .before .before .before .before .args .file .now) (c .before .before .before .before .before .before .before .args .decl .now) (c .before .before .before .before .before .before .before .args .at) (c .before .before .before .before .before .before .before .args .result) (c .before .before .before .before .before .before .before .args .slots) (c .before .before .before .before .before .before .before .good .1 .1 .1 .1 .0 .1 .0 .1) (c .before .before .before .before .before .before .before .args .bound) (c .before .before .before .before .before .before .before .pre .1) (c .before .before .before .before .before .mark .ensures) (ap (λ n. c .before .before .before .before .before .before .before .args .bound + n) (c .before .binds .ensures .0)), ready-low (c .before .before .before .before .before .before .before .pre .1) .1)
+check-term-keep-requires t c κs = let g = c .before .before .before .before .before .before .before .pre .1 in (node-room (c .before .before .before .before .before .before .before .args .slots) (c .before .before .before .before .before .before .before .good .1 .1 .1 .1 .0 .1 .0 .1) g (c .before .before .before .before .before .mark .ensures) (c .before .binds .ensures .0), ready-low g .1)
 
 check-term-follows-requires : (t : ℕ) → check-term-lts.Need-follows-requires (check-term-calls t) (check-term-at t) check-term.Post
-check-term-follows-requires t c κs = (ready-low (c .before .before .before .before .before .before .before .before .pre .1) .1, c .before .before .before .before .before .before .before .before .pre .1 .declared .wide)
+check-term-follows-requires t c κs = let g = c .before .before .before .before .before .before .before .before .pre .1 in (ready-low g .1, g .declared .wide)
 
 check-term-enum-known-then : (t : ℕ) → check-term-lts.Need-enum-known-then (check-term-calls t) (check-term-at t) check-term.Post
 check-term-enum-known-then t c = search needs
@@ -158,19 +177,19 @@ check-term-enum-known-then-2 : (t : ℕ) → check-term-lts.Need-enum-known-then
 check-term-enum-known-then-2 t c = search needs
 
 check-term-check-term-requires : (t : ℕ) → check-term-lts.Need-check-term-requires (check-term-calls t) (check-term-at t) check-term.Post
-check-term-check-term-requires t c κs = let low = ready-low (c .before .before .before .before .before .before .before .before .before .before .before .before .pre .1) in (omega (arith, one-less (c .before .before .before .before .before .before .before .before .before .before .before .before .args .file .now) (c .before .before .before .before .before .before .before .before .before .before .before .before .args .decl .now) (c .before .before .before .before .before .before .before .before .before .before .before .before .args .at) (c .before .before .before .before .before .before .before .before .before .before .before .before .args .result) (c .before .before .before .before .before .before .before .before .before .before .before .before .args .slots) (c .before .before .before .before .before .before .before .before .before .before .before .before .good .1 .1 .1 .1 .0 .1 .0 .1) (c .before .before .before .before .before .before .before .before .before .before .before .before .args .bound) (made (c .before .before .before .before .before .before .before .before .before .before .before .before .args .file .now) (c .before .before .before .before .before .before .before .before .before .before .before .before .args .decl .now) (c .before .before .before .before .before .before .before .before .before .before .before .before .args .at) (c .before .before .before .before .before .before .before .before .before .before .before .before .args .result) (c .before .before .before .before .before .before .before .before .before .before .before .before .args .slots) (c .before .before .before .before .before .before .before .before .before .before .before .before .good .1 .1 .1 .1 .0 .1 .0 .1) (c .before .before .before .before .before .before .before .before .before .before .before .before .args .bound) _ _ _ _ _ _ (c .before .before .before .before .before .before .before .before .before .before .mark .ensures) (c .before .before .before .before .before .before .before .before .before .take-record .ensures) (c .before .before .before .before .before .before .before .if1 .left) (c .before .before .before .before .before .before .binds .ensures .0) (c .before .before .before .before .before .bound-kind .ensures) (c .before .before .before .before .keep .ensures) (c .before .before .before .follows .ensures)) (c .before .then2 .given .1) (c .before .before .before .before .before .before .before .before .before .before .before .before .pre .1)), one-ready (c .before .before .before .before .before .before .before .before .before .before .before .before .args .file .now) (c .before .before .before .before .before .before .before .before .before .before .before .before .args .decl .now) (c .before .before .before .before .before .before .before .before .before .before .before .before .args .at) (c .before .before .before .before .before .before .before .before .before .before .before .before .args .result) (c .before .before .before .before .before .before .before .before .before .before .before .before .args .slots) (c .before .before .before .before .before .before .before .before .before .before .before .before .good .1 .1 .1 .1 .0 .1 .0 .1) (c .before .before .before .before .before .before .before .before .before .before .before .before .args .bound) (made (c .before .before .before .before .before .before .before .before .before .before .before .before .args .file .now) (c .before .before .before .before .before .before .before .before .before .before .before .before .args .decl .now) (c .before .before .before .before .before .before .before .before .before .before .before .before .args .at) (c .before .before .before .before .before .before .before .before .before .before .before .before .args .result) (c .before .before .before .before .before .before .before .before .before .before .before .before .args .slots) (c .before .before .before .before .before .before .before .before .before .before .before .before .good .1 .1 .1 .1 .0 .1 .0 .1) (c .before .before .before .before .before .before .before .before .before .before .before .before .args .bound) _ _ _ _ _ _ (c .before .before .before .before .before .before .before .before .before .before .mark .ensures) (c .before .before .before .before .before .before .before .before .before .take-record .ensures) (c .before .before .before .before .before .before .before .if1 .left) (c .before .before .before .before .before .before .binds .ensures .0) (c .before .before .before .before .before .bound-kind .ensures) (c .before .before .before .before .keep .ensures) (c .before .before .before .follows .ensures)) (c .before .then2 .given .1) (c .before .before .before .before .before .before .before .before .before .before .before .before .pre .1))
+check-term-check-term-requires t c κs = let g = c .before .before .before .before .before .before .before .before .before .before .before .before .pre .1 in let w = node-made t (c .before .before .before) in (omega (arith, c .before .before .before .before .before .before .before .before .before .before .before .before .pre .0, ready-low g .0, one-less w (c .before .then2 .given .1) g), one-ready w (c .before .then2 .given .1) g)
 
 check-term-enum-known-then-3 : (t : ℕ) → check-term-lts.Need-enum-known-then-3 (check-term-calls t) (check-term-at t) check-term.Post
 check-term-enum-known-then-3 t c = search needs
 
 check-term-check-term-requires-2 : (t : ℕ) → check-term-lts.Need-check-term-requires-2 (check-term-calls t) (check-term-at t) check-term.Post
-check-term-check-term-requires-2 t c κs = let low = ready-low (c .before .before .before .before .before .before .before .before .before .before .before .before .pre .1) in (omega (arith, two-less (c .before .before .before .before .before .before .before .before .before .before .before .before .args .file .now) (c .before .before .before .before .before .before .before .before .before .before .before .before .args .decl .now) (c .before .before .before .before .before .before .before .before .before .before .before .before .args .at) (c .before .before .before .before .before .before .before .before .before .before .before .before .args .result) (c .before .before .before .before .before .before .before .before .before .before .before .before .args .slots) (c .before .before .before .before .before .before .before .before .before .before .before .before .good .1 .1 .1 .1 .0 .1 .0 .1) (c .before .before .before .before .before .before .before .before .before .before .before .before .args .bound) (made (c .before .before .before .before .before .before .before .before .before .before .before .before .args .file .now) (c .before .before .before .before .before .before .before .before .before .before .before .before .args .decl .now) (c .before .before .before .before .before .before .before .before .before .before .before .before .args .at) (c .before .before .before .before .before .before .before .before .before .before .before .before .args .result) (c .before .before .before .before .before .before .before .before .before .before .before .before .args .slots) (c .before .before .before .before .before .before .before .before .before .before .before .before .good .1 .1 .1 .1 .0 .1 .0 .1) (c .before .before .before .before .before .before .before .before .before .before .before .before .args .bound) _ _ _ _ _ _ (c .before .before .before .before .before .before .before .before .before .before .mark .ensures) (c .before .before .before .before .before .before .before .before .before .take-record .ensures) (c .before .before .before .before .before .before .before .if1 .left) (c .before .before .before .before .before .before .binds .ensures .0) (c .before .before .before .before .before .bound-kind .ensures) (c .before .before .before .before .keep .ensures) (c .before .before .before .follows .ensures)) (c .before .then3 .given .1) (c .before .before .before .before .before .before .before .before .before .before .before .before .pre .1)), two-ready (c .before .before .before .before .before .before .before .before .before .before .before .before .args .file .now) (c .before .before .before .before .before .before .before .before .before .before .before .before .args .decl .now) (c .before .before .before .before .before .before .before .before .before .before .before .before .args .at) (c .before .before .before .before .before .before .before .before .before .before .before .before .args .result) (c .before .before .before .before .before .before .before .before .before .before .before .before .args .slots) (c .before .before .before .before .before .before .before .before .before .before .before .before .good .1 .1 .1 .1 .0 .1 .0 .1) (c .before .before .before .before .before .before .before .before .before .before .before .before .args .bound) (made (c .before .before .before .before .before .before .before .before .before .before .before .before .args .file .now) (c .before .before .before .before .before .before .before .before .before .before .before .before .args .decl .now) (c .before .before .before .before .before .before .before .before .before .before .before .before .args .at) (c .before .before .before .before .before .before .before .before .before .before .before .before .args .result) (c .before .before .before .before .before .before .before .before .before .before .before .before .args .slots) (c .before .before .before .before .before .before .before .before .before .before .before .before .good .1 .1 .1 .1 .0 .1 .0 .1) (c .before .before .before .before .before .before .before .before .before .before .before .before .args .bound) _ _ _ _ _ _ (c .before .before .before .before .before .before .before .before .before .before .mark .ensures) (c .before .before .before .before .before .before .before .before .before .take-record .ensures) (c .before .before .before .before .before .before .before .if1 .left) (c .before .before .before .before .before .before .binds .ensures .0) (c .before .before .before .before .before .bound-kind .ensures) (c .before .before .before .before .keep .ensures) (c .before .before .before .follows .ensures)) (c .before .then3 .given .1) (c .before .before .before .before .before .before .before .before .before .before .before .before .pre .1))
+check-term-check-term-requires-2 t c κs = let g = c .before .before .before .before .before .before .before .before .before .before .before .before .pre .1 in let w = node-made t (c .before .before .before) in (omega (arith, c .before .before .before .before .before .before .before .before .before .before .before .before .pre .0, ready-low g .0, two-less w (c .before .then3 .given .1) g), two-ready w (c .before .then3 .given .1) g)
 
 check-term-enum-known-second : (t : ℕ) → check-term-lts.Need-enum-known-second (check-term-calls t) (check-term-at t) check-term.Post
 check-term-enum-known-second t c = search needs
 
 check-term-check-term-requires-3 : (t : ℕ) → check-term-lts.Need-check-term-requires-3 (check-term-calls t) (check-term-at t) check-term.Post
-check-term-check-term-requires-3 t c κs = let low = ready-low (c .before .before .before .before .before .before .before .before .before .before .before .before .before .before .before .before .pre .1) in (omega (arith, second-less (c .before .before .before .before .before .before .before .before .before .before .before .before .before .before .before .before .args .file .now) (c .before .before .before .before .before .before .before .before .before .before .before .before .before .before .before .before .args .decl .now) (c .before .before .before .before .before .before .before .before .before .before .before .before .before .before .before .before .args .at) (c .before .before .before .before .before .before .before .before .before .before .before .before .before .before .before .before .args .result) (c .before .before .before .before .before .before .before .before .before .before .before .before .before .before .before .before .args .slots) (c .before .before .before .before .before .before .before .before .before .before .before .before .before .before .before .before .good .1 .1 .1 .1 .0 .1 .0 .1) (c .before .before .before .before .before .before .before .before .before .before .before .before .before .before .before .before .args .bound) (made (c .before .before .before .before .before .before .before .before .before .before .before .before .before .before .before .before .args .file .now) (c .before .before .before .before .before .before .before .before .before .before .before .before .before .before .before .before .args .decl .now) (c .before .before .before .before .before .before .before .before .before .before .before .before .before .before .before .before .args .at) (c .before .before .before .before .before .before .before .before .before .before .before .before .before .before .before .before .args .result) (c .before .before .before .before .before .before .before .before .before .before .before .before .before .before .before .before .args .slots) (c .before .before .before .before .before .before .before .before .before .before .before .before .before .before .before .before .good .1 .1 .1 .1 .0 .1 .0 .1) (c .before .before .before .before .before .before .before .before .before .before .before .before .before .before .before .before .args .bound) _ _ _ _ _ _ (c .before .before .before .before .before .before .before .before .before .before .before .before .before .before .mark .ensures) (c .before .before .before .before .before .before .before .before .before .before .before .before .before .take-record .ensures) (c .before .before .before .before .before .before .before .before .before .before .before .if1 .left) (c .before .before .before .before .before .before .before .before .before .before .binds .ensures .0) (c .before .before .before .before .before .before .before .before .before .bound-kind .ensures) (c .before .before .before .before .before .before .before .before .keep .ensures) (c .before .before .before .before .before .before .before .follows .ensures)) (c .before .before .before .before .before .then3 .given .1) (c .before .before .before .check-term2 .ensures) (c .before .second .given .1) (c .before .before .before .before .before .before .before .before .before .before .before .before .before .before .before .before .pre .1)), second-ready (c .before .before .before .before .before .before .before .before .before .before .before .before .before .before .before .before .args .file .now) (c .before .before .before .before .before .before .before .before .before .before .before .before .before .before .before .before .args .decl .now) (c .before .before .before .before .before .before .before .before .before .before .before .before .before .before .before .before .args .at) (c .before .before .before .before .before .before .before .before .before .before .before .before .before .before .before .before .args .result) (c .before .before .before .before .before .before .before .before .before .before .before .before .before .before .before .before .args .slots) (c .before .before .before .before .before .before .before .before .before .before .before .before .before .before .before .before .good .1 .1 .1 .1 .0 .1 .0 .1) (c .before .before .before .before .before .before .before .before .before .before .before .before .before .before .before .before .args .bound) (made (c .before .before .before .before .before .before .before .before .before .before .before .before .before .before .before .before .args .file .now) (c .before .before .before .before .before .before .before .before .before .before .before .before .before .before .before .before .args .decl .now) (c .before .before .before .before .before .before .before .before .before .before .before .before .before .before .before .before .args .at) (c .before .before .before .before .before .before .before .before .before .before .before .before .before .before .before .before .args .result) (c .before .before .before .before .before .before .before .before .before .before .before .before .before .before .before .before .args .slots) (c .before .before .before .before .before .before .before .before .before .before .before .before .before .before .before .before .good .1 .1 .1 .1 .0 .1 .0 .1) (c .before .before .before .before .before .before .before .before .before .before .before .before .before .before .before .before .args .bound) _ _ _ _ _ _ (c .before .before .before .before .before .before .before .before .before .before .before .before .before .before .mark .ensures) (c .before .before .before .before .before .before .before .before .before .before .before .before .before .take-record .ensures) (c .before .before .before .before .before .before .before .before .before .before .before .if1 .left) (c .before .before .before .before .before .before .before .before .before .before .binds .ensures .0) (c .before .before .before .before .before .before .before .before .before .bound-kind .ensures) (c .before .before .before .before .before .before .before .before .keep .ensures) (c .before .before .before .before .before .before .before .follows .ensures)) (c .before .before .before .before .before .then3 .given .1) (c .before .before .before .check-term2 .ensures) (c .before .second .given .1) (c .before .before .before .before .before .before .before .before .before .before .before .before .before .before .before .before .pre .1))
+check-term-check-term-requires-3 t c κs = let g = c .before .before .before .before .before .before .before .before .before .before .before .before .before .before .before .before .pre .1 in let w = node-made t (c .before .before .before .before .before .before .before) in (omega (arith, c .before .before .before .before .before .before .before .before .before .before .before .before .before .before .before .before .pre .0, ready-low g .0, second-less w (c .before .before .before .before .before .then3 .given .1) (c .before .before .before .check-term2 .ensures) (c .before .second .given .1) g), second-ready w (c .before .before .before .before .before .then3 .given .1) (c .before .before .before .check-term2 .ensures) (c .before .second .given .1) g)
 
 check-term-enum-known-number : (t : ℕ) → check-term-lts.Need-enum-known-number (check-term-calls t) (check-term-at t) check-term.Post
 check-term-enum-known-number t c = search needs
@@ -179,22 +198,22 @@ check-term-enum-known-then-4 : (t : ℕ) → check-term-lts.Need-enum-known-then
 check-term-enum-known-then-4 t c = search needs
 
 check-term-check-branches-requires : (t : ℕ) → check-term-lts.Need-check-branches-requires (check-term-calls t) (check-term-at t) check-term.Post
-check-term-check-branches-requires t c κs = let low = ready-low (c .before .before .before .before .before .before .before .before .before .before .before .before .pre .1) in (omega (arith, many-less (c .before .before .before .before .before .before .before .before .before .before .before .before .args .file .now) (c .before .before .before .before .before .before .before .before .before .before .before .before .args .decl .now) (c .before .before .before .before .before .before .before .before .before .before .before .before .args .at) (c .before .before .before .before .before .before .before .before .before .before .before .before .args .result) (c .before .before .before .before .before .before .before .before .before .before .before .before .args .slots) (c .before .before .before .before .before .before .before .before .before .before .before .before .good .1 .1 .1 .1 .0 .1 .0 .1) (c .before .before .before .before .before .before .before .before .before .before .before .before .args .bound) (made (c .before .before .before .before .before .before .before .before .before .before .before .before .args .file .now) (c .before .before .before .before .before .before .before .before .before .before .before .before .args .decl .now) (c .before .before .before .before .before .before .before .before .before .before .before .before .args .at) (c .before .before .before .before .before .before .before .before .before .before .before .before .args .result) (c .before .before .before .before .before .before .before .before .before .before .before .before .args .slots) (c .before .before .before .before .before .before .before .before .before .before .before .before .good .1 .1 .1 .1 .0 .1 .0 .1) (c .before .before .before .before .before .before .before .before .before .before .before .before .args .bound) _ _ _ _ _ _ (c .before .before .before .before .before .before .before .before .before .before .mark .ensures) (c .before .before .before .before .before .before .before .before .before .take-record .ensures) (c .before .before .before .before .before .before .before .if1 .left) (c .before .before .before .before .before .before .binds .ensures .0) (c .before .before .before .before .before .bound-kind .ensures) (c .before .before .before .before .keep .ensures) (c .before .before .before .follows .ensures)) (c .before .then4 .given .1) (c .before .before .before .before .before .before .before .before .before .before .before .before .pre .1)), many-ready (c .before .before .before .before .before .before .before .before .before .before .before .before .args .file .now) (c .before .before .before .before .before .before .before .before .before .before .before .before .args .decl .now) (c .before .before .before .before .before .before .before .before .before .before .before .before .args .at) (c .before .before .before .before .before .before .before .before .before .before .before .before .args .result) (c .before .before .before .before .before .before .before .before .before .before .before .before .args .slots) (c .before .before .before .before .before .before .before .before .before .before .before .before .good .1 .1 .1 .1 .0 .1 .0 .1) (c .before .before .before .before .before .before .before .before .before .before .before .before .args .bound) (made (c .before .before .before .before .before .before .before .before .before .before .before .before .args .file .now) (c .before .before .before .before .before .before .before .before .before .before .before .before .args .decl .now) (c .before .before .before .before .before .before .before .before .before .before .before .before .args .at) (c .before .before .before .before .before .before .before .before .before .before .before .before .args .result) (c .before .before .before .before .before .before .before .before .before .before .before .before .args .slots) (c .before .before .before .before .before .before .before .before .before .before .before .before .good .1 .1 .1 .1 .0 .1 .0 .1) (c .before .before .before .before .before .before .before .before .before .before .before .before .args .bound) _ _ _ _ _ _ (c .before .before .before .before .before .before .before .before .before .before .mark .ensures) (c .before .before .before .before .before .before .before .before .before .take-record .ensures) (c .before .before .before .before .before .before .before .if1 .left) (c .before .before .before .before .before .before .binds .ensures .0) (c .before .before .before .before .before .bound-kind .ensures) (c .before .before .before .before .keep .ensures) (c .before .before .before .follows .ensures)) (c .before .then4 .given .1) (c .before .before .before .before .before .before .before .before .before .before .before .before .pre .1))
+check-term-check-branches-requires t c κs = let g = c .before .before .before .before .before .before .before .before .before .before .before .before .pre .1 in let w = node-made t (c .before .before .before) in (omega (arith, c .before .before .before .before .before .before .before .before .before .before .before .before .pre .0, ready-low g .0, many-less w (c .before .then4 .given .1) g), many-ready w (c .before .then4 .given .1) g)
 
 check-term-returns-2 : (t : ℕ) → check-term-lts.Need-returns-2 (check-term-calls t) (check-term-at t) check-term.Post
-check-term-returns-2 t c = leaf-judged (c .before .before .before .before .before .before .before .before .before .before .before .before .args .file .now) (c .before .before .before .before .before .before .before .before .before .before .before .before .args .decl .now) (c .before .before .before .before .before .before .before .before .before .before .before .before .args .at) (c .before .before .before .before .before .before .before .before .before .before .before .before .args .result) (c .before .before .before .before .before .before .before .before .before .before .before .before .args .slots) (c .before .before .before .before .before .before .before .before .before .before .before .before .good .1 .1 .1 .1 .0 .1 .0 .1) (c .before .before .before .before .before .before .before .before .before .before .before .before .args .bound) (made (c .before .before .before .before .before .before .before .before .before .before .before .before .args .file .now) (c .before .before .before .before .before .before .before .before .before .before .before .before .args .decl .now) (c .before .before .before .before .before .before .before .before .before .before .before .before .args .at) (c .before .before .before .before .before .before .before .before .before .before .before .before .args .result) (c .before .before .before .before .before .before .before .before .before .before .before .before .args .slots) (c .before .before .before .before .before .before .before .before .before .before .before .before .good .1 .1 .1 .1 .0 .1 .0 .1) (c .before .before .before .before .before .before .before .before .before .before .before .before .args .bound) _ _ _ _ _ _ (c .before .before .before .before .before .before .before .before .before .before .mark .ensures) (c .before .before .before .before .before .before .before .before .before .take-record .ensures) (c .before .before .before .before .before .before .before .if1 .left) (c .before .before .before .before .before .before .binds .ensures .0) (c .before .before .before .before .before .bound-kind .ensures) (c .before .before .before .before .keep .ensures) (c .before .before .before .follows .ensures)) (c .before .then .given .1)
+check-term-returns-2 t c = leaf-judged (node-made t (c .before .before .before)) (c .before .then .given .1)
 
 check-term-returns-3 : (t : ℕ) → check-term-lts.Need-returns-3 (check-term-calls t) (check-term-at t) check-term.Post
-check-term-returns-3 t c = one-judged (c .before .before .before .before .before .before .before .before .before .before .before .before .before .args .file .now) (c .before .before .before .before .before .before .before .before .before .before .before .before .before .args .decl .now) (c .before .before .before .before .before .before .before .before .before .before .before .before .before .args .at) (c .before .before .before .before .before .before .before .before .before .before .before .before .before .args .result) (c .before .before .before .before .before .before .before .before .before .before .before .before .before .args .slots) (c .before .before .before .before .before .before .before .before .before .before .before .before .before .good .1 .1 .1 .1 .0 .1 .0 .1) (c .before .before .before .before .before .before .before .before .before .before .before .before .before .args .bound) (made (c .before .before .before .before .before .before .before .before .before .before .before .before .before .args .file .now) (c .before .before .before .before .before .before .before .before .before .before .before .before .before .args .decl .now) (c .before .before .before .before .before .before .before .before .before .before .before .before .before .args .at) (c .before .before .before .before .before .before .before .before .before .before .before .before .before .args .result) (c .before .before .before .before .before .before .before .before .before .before .before .before .before .args .slots) (c .before .before .before .before .before .before .before .before .before .before .before .before .before .good .1 .1 .1 .1 .0 .1 .0 .1) (c .before .before .before .before .before .before .before .before .before .before .before .before .before .args .bound) _ _ _ _ _ _ (c .before .before .before .before .before .before .before .before .before .before .before .mark .ensures) (c .before .before .before .before .before .before .before .before .before .before .take-record .ensures) (c .before .before .before .before .before .before .before .before .if1 .left) (c .before .before .before .before .before .before .before .binds .ensures .0) (c .before .before .before .before .before .before .bound-kind .ensures) (c .before .before .before .before .before .keep .ensures) (c .before .before .before .before .follows .ensures)) (c .before .before .then2 .given .1) (c .check-term .ensures)
+check-term-returns-3 t c = one-judged (node-made t (c .before .before .before .before)) (c .before .before .then2 .given .1) (c .check-term .ensures)
 
 check-term-returns-4 : (t : ℕ) → check-term-lts.Need-returns-4 (check-term-calls t) (check-term-at t) check-term.Post
-check-term-returns-4 t c = two-judged (c .before .before .before .before .before .before .before .before .before .before .before .before .before .before .before .before .before .args .file .now) (c .before .before .before .before .before .before .before .before .before .before .before .before .before .before .before .before .before .args .decl .now) (c .before .before .before .before .before .before .before .before .before .before .before .before .before .before .before .before .before .args .at) (c .before .before .before .before .before .before .before .before .before .before .before .before .before .before .before .before .before .args .result) (c .before .before .before .before .before .before .before .before .before .before .before .before .before .before .before .before .before .args .slots) (c .before .before .before .before .before .before .before .before .before .before .before .before .before .before .before .before .before .good .1 .1 .1 .1 .0 .1 .0 .1) (c .before .before .before .before .before .before .before .before .before .before .before .before .before .before .before .before .before .args .bound) (made (c .before .before .before .before .before .before .before .before .before .before .before .before .before .before .before .before .before .args .file .now) (c .before .before .before .before .before .before .before .before .before .before .before .before .before .before .before .before .before .args .decl .now) (c .before .before .before .before .before .before .before .before .before .before .before .before .before .before .before .before .before .args .at) (c .before .before .before .before .before .before .before .before .before .before .before .before .before .before .before .before .before .args .result) (c .before .before .before .before .before .before .before .before .before .before .before .before .before .before .before .before .before .args .slots) (c .before .before .before .before .before .before .before .before .before .before .before .before .before .before .before .before .before .good .1 .1 .1 .1 .0 .1 .0 .1) (c .before .before .before .before .before .before .before .before .before .before .before .before .before .before .before .before .before .args .bound) _ _ _ _ _ _ (c .before .before .before .before .before .before .before .before .before .before .before .before .before .before .before .mark .ensures) (c .before .before .before .before .before .before .before .before .before .before .before .before .before .before .take-record .ensures) (c .before .before .before .before .before .before .before .before .before .before .before .before .if1 .left) (c .before .before .before .before .before .before .before .before .before .before .before .binds .ensures .0) (c .before .before .before .before .before .before .before .before .before .before .bound-kind .ensures) (c .before .before .before .before .before .before .before .before .before .keep .ensures) (c .before .before .before .before .before .before .before .before .follows .ensures)) (c .before .before .before .before .before .before .then3 .given .1) (c .before .before .before .before .check-term2 .ensures) (c .before .before .second .given .1) (c .check-term3 .ensures)
+check-term-returns-4 t c = two-judged (node-made t (c .before .before .before .before .before .before .before .before)) (c .before .before .before .before .before .before .then3 .given .1) (c .before .before .before .before .check-term2 .ensures) (c .before .before .second .given .1) (c .check-term3 .ensures)
 
 check-term-returns-5 : (t : ℕ) → check-term-lts.Need-returns-5 (check-term-calls t) (check-term-at t) check-term.Post
-check-term-returns-5 t c = two-stops (c .before .before .before .before .before .before .before .before .before .before .before .before .before .before .before .before .args .file .now) (c .before .before .before .before .before .before .before .before .before .before .before .before .before .before .before .before .args .decl .now) (c .before .before .before .before .before .before .before .before .before .before .before .before .before .before .before .before .args .at) (c .before .before .before .before .before .before .before .before .before .before .before .before .before .before .before .before .args .result) (c .before .before .before .before .before .before .before .before .before .before .before .before .before .before .before .before .args .slots) (c .before .before .before .before .before .before .before .before .before .before .before .before .before .before .before .before .good .1 .1 .1 .1 .0 .1 .0 .1) (c .before .before .before .before .before .before .before .before .before .before .before .before .before .before .before .before .args .bound) (made (c .before .before .before .before .before .before .before .before .before .before .before .before .before .before .before .before .args .file .now) (c .before .before .before .before .before .before .before .before .before .before .before .before .before .before .before .before .args .decl .now) (c .before .before .before .before .before .before .before .before .before .before .before .before .before .before .before .before .args .at) (c .before .before .before .before .before .before .before .before .before .before .before .before .before .before .before .before .args .result) (c .before .before .before .before .before .before .before .before .before .before .before .before .before .before .before .before .args .slots) (c .before .before .before .before .before .before .before .before .before .before .before .before .before .before .before .before .good .1 .1 .1 .1 .0 .1 .0 .1) (c .before .before .before .before .before .before .before .before .before .before .before .before .before .before .before .before .args .bound) _ _ _ _ _ _ (c .before .before .before .before .before .before .before .before .before .before .before .before .before .before .mark .ensures) (c .before .before .before .before .before .before .before .before .before .before .before .before .before .take-record .ensures) (c .before .before .before .before .before .before .before .before .before .before .before .if1 .left) (c .before .before .before .before .before .before .before .before .before .before .binds .ensures .0) (c .before .before .before .before .before .before .before .before .before .bound-kind .ensures) (c .before .before .before .before .before .before .before .before .keep .ensures) (c .before .before .before .before .before .before .before .follows .ensures)) (c .before .before .before .before .before .then3 .given .1) (c .before .before .before .check-term2 .ensures) (c .before .number .given .1)
+check-term-returns-5 t c = two-stops (node-made t (c .before .before .before .before .before .before .before)) (c .before .before .before .before .before .then3 .given .1) (c .before .before .before .check-term2 .ensures) (c .before .number .given .1)
 
 check-term-returns-6 : (t : ℕ) → check-term-lts.Need-returns-6 (check-term-calls t) (check-term-at t) check-term.Post
-check-term-returns-6 t c = many-judged (c .before .before .before .before .before .before .before .before .before .before .before .before .before .args .file .now) (c .before .before .before .before .before .before .before .before .before .before .before .before .before .args .decl .now) (c .before .before .before .before .before .before .before .before .before .before .before .before .before .args .at) (c .before .before .before .before .before .before .before .before .before .before .before .before .before .args .result) (c .before .before .before .before .before .before .before .before .before .before .before .before .before .args .slots) (c .before .before .before .before .before .before .before .before .before .before .before .before .before .good .1 .1 .1 .1 .0 .1 .0 .1) (c .before .before .before .before .before .before .before .before .before .before .before .before .before .args .bound) (made (c .before .before .before .before .before .before .before .before .before .before .before .before .before .args .file .now) (c .before .before .before .before .before .before .before .before .before .before .before .before .before .args .decl .now) (c .before .before .before .before .before .before .before .before .before .before .before .before .before .args .at) (c .before .before .before .before .before .before .before .before .before .before .before .before .before .args .result) (c .before .before .before .before .before .before .before .before .before .before .before .before .before .args .slots) (c .before .before .before .before .before .before .before .before .before .before .before .before .before .good .1 .1 .1 .1 .0 .1 .0 .1) (c .before .before .before .before .before .before .before .before .before .before .before .before .before .args .bound) _ _ _ _ _ _ (c .before .before .before .before .before .before .before .before .before .before .before .mark .ensures) (c .before .before .before .before .before .before .before .before .before .before .take-record .ensures) (c .before .before .before .before .before .before .before .before .if1 .left) (c .before .before .before .before .before .before .before .binds .ensures .0) (c .before .before .before .before .before .before .bound-kind .ensures) (c .before .before .before .before .before .keep .ensures) (c .before .before .before .before .follows .ensures)) (c .before .before .then4 .given .1) (c .check-branches .ensures)
+check-term-returns-6 t c = many-judged (node-made t (c .before .before .before .before)) (c .before .before .then4 .given .1) (c .check-branches .ensures)
 
 pub +check-branches+check-term-spec : {M : Type 1} → statement M
 +check-branches+check-term-spec =

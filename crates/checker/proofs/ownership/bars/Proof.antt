@@ -2,7 +2,7 @@
 use borrow.Author.Needs.{needs}
 use Rattle.checker.proofs.ownership.bars.Statement.{statement}
 use Rattle.checker.proofs.ownership.bars.Tie as tie
-use Rattle.checker.proofs.ownership.Coding.{bars-here, bars-not}
+use Rattle.checker.proofs.ownership.Turns.{bars-here}
 
 spends-requires : tie.Need-spends-requires
 spends-requires c κs = search needs

@@ -2,9 +2,9 @@
 use Rattle.checker.proofs.ownership.bind_all.Statement.{statement}
 use Rattle.checker.proofs.ownership.bind_all.Tie as tie
 use Prim.Native.Nat.{_+_, _≤_, _-_}
-use mathlib.Core.Path.{_≡_, refl, sym, ap, _∙_}
+use mathlib.Core.Path.{_≡_, sym, _∙_}
 use Rattle.checker.specs.Ownership.{laidOf}
-use Rattle.checker.proofs.ownership.Coding.{scaled-small, laid-end, laid-again}
+use Rattle.checker.proofs.ownership.Turns.{scaled-small, laid-end, laid-again}
 use borrow.Author.Needs.{needs}
 use native.Mathlib.Omega.{arith}
 

@@ -2,7 +2,7 @@
 use borrow.Author.Needs.{needs}
 use Rattle.checker.proofs.ownership.branch_slots.Statement.{statement}
 use Rattle.checker.proofs.ownership.branch_slots.Tie as tie
-use Rattle.checker.proofs.ownership.Coding.{branch-credit, branch-plain, branch-fits}
+use Rattle.checker.proofs.ownership.Turns.{branch-credit, branch-plain, branch-fits}
 
 arity-requires : tie.Need-arity-requires
 arity-requires c κs = search needs

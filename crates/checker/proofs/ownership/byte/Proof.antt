@@ -2,7 +2,7 @@
 use borrow.Author.Needs.{needs}
 use Rattle.checker.proofs.ownership.byte.Statement.{statement}
 use Rattle.checker.proofs.ownership.byte.Tie as tie
-use mathlib.Core.Path.{_≡_, refl, sym, ap, _∙_}
+use mathlib.Core.Path.{sym}
 use lib.ListN.{List·getD-eq-default}
 use native.Mathlib.Omega.{arith}
 

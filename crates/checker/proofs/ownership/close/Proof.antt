@@ -2,8 +2,8 @@
 use borrow.Author.Needs.{needs}
 use Rattle.checker.proofs.ownership.close.Statement.{statement}
 use Rattle.checker.proofs.ownership.close.Tie as tie
-use mathlib.Core.Path.{_≡_, refl, sym, ap, _∙_}
-use Rattle.checker.proofs.ownership.Coding.{close-stops, close-left, close-fine}
+use mathlib.Core.Path.{_∙_}
+use Rattle.checker.proofs.ownership.Turns.{close-stops, close-left, close-fine}
 
 returns : tie.Need-returns
 returns c = close-stops _ _ _ _ (c .if1 .taken)

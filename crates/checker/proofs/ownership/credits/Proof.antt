@@ -1,7 +1,7 @@
 -- `checker::ownership::credits` meets its contract. Assumes nothing.
 use Rattle.checker.proofs.ownership.credits.Statement.{statement}
 use Rattle.checker.proofs.ownership.credits.Tie as tie
-use borrow.Author.Tests.{le-leb, lt-leb, eq-eqb, ne-eqb}
+use borrow.Author.Tests.{eq-eqb, ne-eqb}
 use Rattle.meaning.specs.Choice.{pick}
 use Rattle.checker.specs.Ownership.{creditsOf}
 

@@ -2,11 +2,10 @@
 use borrow.Author.Needs.{needs}
 use Rattle.checker.proofs.ownership.follows.Statement.{statement}
 use Rattle.checker.proofs.ownership.follows.Tie as tie
-use mathlib.Core.Path.{_≡_, refl, sym, ap, _∙_}
-use borrow.Author.Tests.{le-leb, lt-leb, eq-eqb, ne-eqb}
+use borrow.Author.Tests.{ne-eqb}
 use Rattle.meaning.specs.Choice.{pick}
 use Rattle.checker.specs.Ownership.{thenOf}
-use Rattle.checker.proofs.ownership.Coding.{past-is}
+use Rattle.checker.proofs.ownership.Turns.{past-is}
 
 mark-row-requires : tie.Need-mark-row-requires
 mark-row-requires c κs = search needs

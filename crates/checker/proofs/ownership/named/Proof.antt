@@ -2,8 +2,8 @@
 use borrow.Author.Needs.{needs}
 use Rattle.checker.proofs.ownership.named.Statement.{statement}
 use Rattle.checker.proofs.ownership.named.Tie as tie
-use mathlib.Core.Path.{_≡_, refl, sym, ap, _∙_}
-use borrow.Author.Tests.{le-leb, lt-leb, eq-eqb, ne-eqb}
+use mathlib.Core.Path.{refl}
+use borrow.Author.Tests.{ne-eqb}
 use Rattle.meaning.specs.Choice.{pick}
 use Rattle.checker.specs.Ownership.{namedBy}
 use native.Mathlib.Omega.{arith}

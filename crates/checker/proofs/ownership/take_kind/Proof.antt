@@ -2,8 +2,8 @@
 use borrow.Author.Needs.{needs}
 use Rattle.checker.proofs.ownership.take_kind.Statement.{statement}
 use Rattle.checker.proofs.ownership.take_kind.Tie as tie
-use mathlib.Core.Path.{_≡_, refl, sym, ap, _∙_}
-use Rattle.checker.proofs.ownership.Coding.{kind-stops, kind-spends, kind-keeps}
+use mathlib.Core.Path.{_∙_}
+use Rattle.checker.proofs.ownership.Turns.{kind-stops, kind-spends, kind-keeps}
 
 has-requires : tie.Need-has-requires
 has-requires c κs = search needs

@@ -2,9 +2,9 @@
 use Rattle.checker.proofs.ownership.take_list.Statement.{statement}
 use Rattle.checker.proofs.ownership.take_list.Tie as tie
 use Prim.Native.Nat.{_+_, _≤_, _-_}
-use mathlib.Core.Path.{_≡_, refl, sym, ap, _∙_}
+use mathlib.Core.Path.{_≡_, sym, _∙_}
 use Rattle.checker.specs.Ownership.{listOf}
-use Rattle.checker.proofs.ownership.Coding.{scaled-small, list-end, list-out, list-fault, list-again}
+use Rattle.checker.proofs.ownership.Turns.{scaled-small, list-end, list-out, list-fault, list-again}
 use borrow.Author.Needs.{needs}
 use native.Mathlib.Omega.{arith}
 

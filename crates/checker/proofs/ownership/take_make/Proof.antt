@@ -2,9 +2,9 @@
 use borrow.Author.Needs.{needs}
 use Rattle.checker.proofs.ownership.take_make.Statement.{statement}
 use Rattle.checker.proofs.ownership.take_make.Tie as tie
-use mathlib.Core.Path.{_≡_, refl, sym, ap, _∙_}
+use mathlib.Core.Path.{refl}
 use Rattle.checker.specs.Ownership.{makeOf}
-use Rattle.checker.proofs.ownership.Coding.{on-stops, on-fine}
+use Rattle.checker.proofs.ownership.Turns.{on-stops, on-fine}
 
 add-byte : tie.Need-add-byte
 add-byte c = search needs

@@ -3,7 +3,7 @@ use borrow.Author.Needs.{needs}
 use Rattle.checker.proofs.ownership.take_pair.Statement.{statement}
 use Rattle.checker.proofs.ownership.take_pair.Tie as tie
 use Rattle.checker.specs.Ownership.{pairOf}
-use Rattle.checker.proofs.ownership.Coding.{on-stops, on-fine}
+use Rattle.checker.proofs.ownership.Turns.{on-stops, on-fine}
 
 add-take : tie.Need-add-take
 add-take c = search needs

@@ -1,11 +1,10 @@
 -- `checker::slots::keep` meets its contract. Assumes nothing.
 use Rattle.checker.proofs.slots.keep.Statement.{statement}
 use Rattle.checker.proofs.slots.keep.Tie as tie
-use Prim.Native.Nat.{_≤_, _<_}
-use mathlib.Core.Path.{_≡_, refl, sym, ap, _∙_}
+use mathlib.Core.Path.{_≡_, refl, _∙_}
 use Rattle.checker.specs.OwnershipBits.{bitsOf}
 use Rattle.checker.specs.Slots.{spentBy}
-use Rattle.checker.proofs.ownership.Coding.{kept-turn, kept-none, kept-bound, kept-all}
+use Rattle.checker.proofs.ownership.Turns.{kept-turn, kept-none, kept-bound, kept-all}
 use borrow.Author.Needs.{needs}
 use native.Mathlib.Omega.{arith}
 

@@ -1,7 +1,7 @@
 -- `checker::slots::kind_of` meets its contract. Assumes nothing.
 use Rattle.checker.proofs.slots.kind_of.Statement.{statement}
 use Rattle.checker.proofs.slots.kind_of.Tie as tie
-use borrow.Author.Tests.{le-leb, lt-leb, eq-eqb, ne-eqb}
+use borrow.Author.Tests.{eq-eqb, ne-eqb}
 use Rattle.meaning.specs.Choice.{pick}
 use Rattle.checker.specs.Slots.{kindAt}
 

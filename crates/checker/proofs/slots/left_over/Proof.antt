@@ -2,12 +2,12 @@
 use Rattle.checker.proofs.slots.left_over.Statement.{statement}
 use Rattle.checker.proofs.slots.left_over.Tie as tie
 use Prim.Native.Nat.{_≤_, _-_}
-use mathlib.Core.Path.{_≡_, refl, sym, ap, _∙_}
+use mathlib.Core.Path.{_≡_, refl, sym, _∙_}
 use lib.ListN.{drop}
 use Rattle.meaning.specs.Ownership.{leftover}
 use Rattle.checker.specs.OwnershipBits.{bitsOf}
 use Rattle.checker.specs.Slots.{slotsOf, spentBy}
-use Rattle.checker.proofs.ownership.Coding.{left-end, left-found, left-later}
+use Rattle.checker.proofs.ownership.Turns.{left-end, left-found, left-later}
 use borrow.Author.Needs.{needs}
 use native.Mathlib.Omega.{arith}
 

@@ -2,8 +2,8 @@
 use borrow.Author.Needs.{needs}
 use Rattle.checker.proofs.slots.test.Statement.{statement}
 use Rattle.checker.proofs.slots.test.Tie as tie
-use mathlib.Core.Path.{_≡_, refl, sym, ap, _∙_}
-use Rattle.checker.proofs.ownership.Coding.{test-kind, test-used, test-barred, test-fine, test-size}
+use mathlib.Core.Path.{sym, _∙_}
+use Rattle.checker.proofs.ownership.Turns.{test-kind, test-used, test-barred, test-fine, test-size}
 
 suits-requires : tie.Need-suits-requires
 suits-requires c κs = search needs

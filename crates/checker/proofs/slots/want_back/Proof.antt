@@ -1,7 +1,7 @@
 -- `checker::slots::want_back` meets its contract. Assumes nothing.
 use Rattle.checker.proofs.slots.want_back.Statement.{statement}
 use Rattle.checker.proofs.slots.want_back.Tie as tie
-use borrow.Author.Tests.{le-leb, lt-leb, eq-eqb, ne-eqb}
+use borrow.Author.Tests.{eq-eqb, ne-eqb}
 use Rattle.meaning.specs.Choice.{pick}
 use Rattle.checker.specs.Slots.{wantBack}
 

@@ -1,25 +1,22 @@
 -- The code's slots, spent and bound, as slots of the definition. Assumes nothing.
-use Prim.Native.Nat.{ℕ, zero, suc, _+_, _-_, _*_, _^_, _≤_, _<_}
-use mathlib.Core.Path.{_≡_, refl, sym, ap, ap₂, _∙_, subst}
+use Prim.Native.Nat.{ℕ, zero, suc, _+_, _^_, _≤_, _<_}
+use mathlib.Core.Path.{_≡_, refl, sym, ap, ap₂, _∙_}
 use mathlib.Core.List.{List, [], _∷_, _++_}
-use mathlib.Core.Bool.{Bool, true, false, _||_}
-use mathlib.Core.Option.{Option, none, some}
+use mathlib.Core.Bool.{Bool, true, false}
+use mathlib.Core.Option.{none, some}
 use native.Mathlib.Omega.{arith}
 use native.Mathlib.Numerals.{add-one}
-use lib.ListN.{length, set, getD, getElem?, drop, replicate, length-set}
-use lib.Seq.{getD-set-same, getD-set-other}
-use lib.Dec.{leb, ltb}
+use lib.ListN.{length, set, getD, getElem?, replicate}
 use lib.Bits.{bitOr}
 use Rattle.meaning.specs.declared.Kind.{Kind}
 use Rattle.meaning.specs.declared.Kind.the-variants.{Number, Lent, Owned, Credit, UsedOwned, UsedCredit}
 use Rattle.meaning.specs.declared.Slot.{Slot}
 use Rattle.meaning.specs.Sets.{first}
-use Rattle.meaning.specs.Choice.{pick}
 use Rattle.meaning.specs.Ownership as tree
 use Rattle.checker.specs.declared.slots.Want.{Want}
 use Rattle.checker.specs.declared.slots.Want.the-variants as want
 use Rattle.checker.specs.OwnershipBits.{bitsOf}
-use Rattle.checker.specs.Slots.{kindOf, usedIn, slotOf, slotsOf, usedKind, nowKind, usedSlot, spentBy, unbound, bound-slot, wantOf, spendsOf}
+use Rattle.checker.specs.Slots.{kindOf, usedIn, slotOf, slotsOf, usedKind, nowKind, usedSlot, spentBy, unbound, wantOf, spendsOf}
 use Rattle.checker.proofs.ownership.Bits.{bits-none, bits-length, or-bit}
 
 pub slots-length : (n : ℕ) (xs : List Slot) → length (slotsOf n xs) ≡ n
@@ -167,7 +164,7 @@ used-slot w b k s f =
 pub left-with : (slots : List Slot) (bound spent i : ℕ) (w : Want) → length slots ≡ 32 → i < 32 → spendsOf w ≡ true
     → tree.fits (wantOf w) (kindOf (nowKind (getD (bitsOf 32 spent) i false) (getD slots i unbound .kind))) ≡ true
     → leftOf slots bound (bitOr spent (2 ^ i))
-        ≡ set (leftOf slots bound spent) i (record { kind = kindOf (nowKind (getD (bitsOf 32 spent) i false) (getD slots i unbound .kind)); used = true })
+    ≡ set (leftOf slots bound spent) i (record { kind = kindOf (nowKind (getD (bitsOf 32 spent) i false) (getD slots i unbound .kind)); used = true })
 unfolding leftOf
 left-with slots bound spent i w wide h s f =
     let u = used-slot w (getD (bitsOf 32 spent) i false) (getD slots i unbound .kind) s f in

@@ -1,8 +1,8 @@
 -- The byte-level definitions, turn by turn as the code goes: the facts that the functions' proofs cite. Assumes nothing.
 use Prim.Native.Nat.{ℕ, zero, suc, _+_, _-_, _*_, _^_, _≤_, _<_}
-use mathlib.Core.Path.{_≡_, refl, sym, ap, ap₂, _∙_, subst}
+use mathlib.Core.Path.{_≡_, refl, sym, ap, _∙_}
 use mathlib.Core.List.{List, [], _∷_}
-use mathlib.Core.Bool.{Bool, true, false, not, _||_, _&&_}
+use mathlib.Core.Bool.{Bool, true, false, _||_}
 use native.Mathlib.Omega.{arith}
 use native.Mathlib.Numerals.{add-one}
 use lib.ListN.{length, set, getD, drop, drop-of-length-le}
@@ -21,10 +21,10 @@ use Rattle.standing.specs.Bytes.{byteAt, arityIn, fieldsIn}
 use Rattle.checker.specs.declared.slots.Want.{Want}
 use Rattle.checker.specs.declared.ownership.Taken.{Taken}
 use Rattle.checker.specs.OwnershipBits.{bitsOf}
-use Rattle.checker.specs.Slots.{kindOf, usedIn, slotOf, slotsOf, usedKind, nowKind, usedSlot, spentBy, unbound, bound-slot, wantOf, spendsOf, testOf, wantAt, kindAt, keptOf}
+use Rattle.checker.specs.Slots.{kindOf, usedIn, slotOf, slotsOf, usedKind, nowKind, spentBy, unbound, bound-slot, wantOf, spendsOf, testOf, wantAt, kindAt, keptOf}
 use Rattle.checker.specs.Ownership.{fine, fault, onFine, takeKind, takeOf, barsOf, listOf, closeOf, namedBy, pastOf, laidOf, creditsOf, branchOf}
 use Rattle.checker.proofs.ownership.Bits.{bits-none, bits-length}
-use Rattle.checker.proofs.ownership.Sloting.{slots-length, spent-none, spent-first, spent-at}
+use Rattle.checker.proofs.ownership.Spending.{slots-length, spent-none, spent-first, spent-at}
 
 -- ---- a slot's test
 module _ (k : Kind) (w : Want) (barred : Bool) where
@@ -102,9 +102,9 @@ module _ (bytes : List ℕ) (slots : List Slot) (bound scale : ℕ) where
 
   list-suc : (n modes at earlier spent : ℕ) → 0 < n
       → listOf bytes slots bound scale n modes at earlier spent
-        ≡ onFine (takeOf slots bound (byteAt bytes at) at (wantAt (byteAt bytes modes * scale)) (barsOf (wantAt (byteAt bytes modes * scale)) earlier (byteAt bytes at)) spent)
-          (listOf bytes slots bound scale (n - 1) (modes + 1) (at + 1) (bitOr earlier (2 ^ byteAt bytes at))
-            (takeOf slots bound (byteAt bytes at) at (wantAt (byteAt bytes modes * scale)) (barsOf (wantAt (byteAt bytes modes * scale)) earlier (byteAt bytes at)) spent .spent))
+      ≡ onFine (takeOf slots bound (byteAt bytes at) at (wantAt (byteAt bytes modes * scale)) (barsOf (wantAt (byteAt bytes modes * scale)) earlier (byteAt bytes at)) spent)
+      (listOf bytes slots bound scale (n - 1) (modes + 1) (at + 1) (bitOr earlier (2 ^ byteAt bytes at))
+      (takeOf slots bound (byteAt bytes at) at (wantAt (byteAt bytes modes * scale)) (barsOf (wantAt (byteAt bytes modes * scale)) earlier (byteAt bytes at)) spent .spent))
   unfolding listOf
   list-suc n modes at earlier spent h =
       let e : n ≡ suc (n - 1) = omega arith in
@@ -118,7 +118,6 @@ module _ (bytes : List ℕ) (slots : List Slot) (bound scale : ℕ) where
 
   module _ (n modes at earlier spent i b : ℕ) (w : Want) (barred : Bool) (t : Taken) (h : 0 < n) (ei : i ≡ byteAt bytes at) (l : i < bound) (eb : b ≡ byteAt bytes modes)
       (ew : w ≡ wantAt (b * scale)) (er : barred ≡ barsOf w earlier i) (et : t ≡ takeKind (getD slots i unbound .kind) i at w barred spent) where
-
     taken-is : takeOf slots bound (byteAt bytes at) at (wantAt (byteAt bytes modes * scale)) (barsOf (wantAt (byteAt bytes modes * scale)) earlier (byteAt bytes at)) spent ≡ t
     unfolding takeOf pick
     taken-is =
@@ -185,7 +184,6 @@ module _ (slots : List Slot) (spent bound : ℕ) where
 
   module _ (i : ℕ) (now : Kind) (gone left : Bool) (h : i < bound) (eg : gone ≡ getD (bitsOf 32 spent) i false) (en : now ≡ nowKind gone (getD slots i unbound .kind))
       (el : left ≡ tree.remains (record { kind = kindOf now; used = usedIn now })) where
-
     left-is : tree.leftover (rest i) ≡ (left || tree.leftover (rest (suc i)))
     left-is =
         let q : getD (spentBy (bitsOf 32 spent) slots) i unbound .kind ≡ now = spent-at (bitsOf 32 spent) slots i ∙ sym (en ∙ ap (λ b. nowKind b (getD slots i unbound .kind)) eg) in
@@ -222,13 +220,11 @@ module _ (bytes : List ℕ) (scale at count modes bound j b : ℕ) (out : List S
 
 module _ (bytes : List ℕ) (slots : List Slot) (bound scale count modes at j earlier spent i : ℕ) (X : Taken) (x : X ≡ listOf bytes slots bound scale (count - j) (modes + j) (at + j) earlier spent) (h : j < count)
     (ei : i ≡ byteAt bytes (at + j)) where
-
   pub list-out : bound ≤ i → X ≡ fault 7 (at + j)
   list-out l = x ∙ list-unbound bytes slots bound scale (count - j) (modes + j) (at + j) earlier spent i (omega arith) ei l
 
   module _ (b : ℕ) (w : Want) (barred : Bool) (t : Taken) (l : i < bound) (eb : b ≡ byteAt bytes (modes + j)) (ew : w ≡ wantAt (b * scale)) (er : barred ≡ barsOf w earlier i)
       (et : t ≡ takeKind (getD slots i unbound .kind) i (at + j) w barred spent) where
-
     pub list-fault : (t .number ≡ 0 → ⊥) → X ≡ t
     list-fault z = x ∙ list-stops bytes slots bound scale (count - j) (modes + j) (at + j) earlier spent i b w barred t (omega arith) ei l eb ew er et z
 
@@ -243,7 +239,6 @@ module _ (bytes : List ℕ) (slots : List Slot) (bound scale count modes at j ea
 -- ---- the slots of a branch
 module _ (bytes decl : List ℕ) (c at credit : ℕ) (slots : List Slot) (bound k m x : ℕ) (out : List Slot)
     (ek : k ≡ arityIn decl c) (em : m ≡ fieldsIn decl c) (eo : out ≡ laidOf bytes (1 + credit) at k m bound slots) (ex : x ≡ creditsOf k credit) where
-
   pub branch-credit : x ≡ 1 → set out (bound + k) (bound-slot (kind.Credit k) at) ≡ branchOf bytes decl c at credit slots bound
   unfolding branchOf pick
   branch-credit e = let q : eqb (creditsOf k credit) 1 ≡ true = eq-eqb (creditsOf k credit) 1 (sym ex ∙ e) in rw (← ek, ← em, q, ← eo)
