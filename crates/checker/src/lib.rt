@@ -3,9 +3,10 @@ mod calls;
 mod ownership;
 mod reading;
 mod slots;
+
 use crate::calls::shape_of;
-use crate::ownership::check_bodies;
 use crate::ownership::Checked;
+use crate::ownership::check_bodies;
 use crate::reading::read_file;
 use meaning::Verdict;
 ghost use mathlib.Core.Path.{_≡_};

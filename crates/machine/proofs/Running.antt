@@ -30,7 +30,7 @@ use Rattle.machine.specs.Represents.{Begun}
 use Rattle.machine.specs.Steps.{answerOf}
 use Rattle.checker.specs.declared.Judged.{Judged}
 use Rattle.checker.specs.Judging.{judgedOf}
-use Rattle.checker.proofs.Joining.{Accepts, judged-refuses, judged-accepts, accepts-declared}
+use Rattle.checker.proofs.Joining.{Accepts, judged-refuses, accepts-declared}
 use Rattle.machine.specs.Running.{unfitOf, Opened, steppedBy}
 
 -- a list wiped twice, and what lies behind
@@ -122,7 +122,7 @@ module _ {bytes decl args store work : List ℕ} (o : Opened bytes decl args sto
   begin-ran budget w₂ {limit = limit} {w₁ = w₁} {w₃ = w₃} {store′ = store′} {r = r} m z l k q runs d e t =
       let same : w₃ ≡ wiped 4096 work = e ∙ wiped-alike 4096 w₂ work (d ∙ ap (drop 4096) q ∙ drop-wiped 4096 work) in
       let ran : answerOf r store′ ≡ run (o .file) (budget-of budget) (begins (o .file) args store) 0 1 =
-        runs (begin-begun m z k q) ∙ (λ i. run (o .file) (l i) (begins (o .file) args store) 0 1) in
+      runs (begin-begun m z k q) ∙ (λ i. run (o .file) (l i) (begins (o .file) args store) 0 1) in
       (λ i. ended (t i) store′ (same i)) ∙ executed bytes args store work budget (o .file) (o .accepts) (starts m z) (answerOf r store′) ran
 
 -- the sizes, by the test
@@ -158,9 +158,6 @@ module _ (bytes args store work : List ℕ) (budget : ℕ) {j : Judged} (e : j �
   -- the accepted file
   abbrev Tree : Type 0
   Tree = Accepts bytes e
-
-  pub tree : j .number ≡ 0 → Tree
-  tree z = judged-accepts bytes e z
 
   declares : (t : Tree) → Declared (t .file) bytes (j .table)
   declares t = accepts-declared bytes e t

@@ -2,6 +2,7 @@
 mod frame;
 mod start;
 mod step;
+
 use crate::frame::Store;
 use crate::start::start_check;
 use crate::start::wipe;
@@ -111,13 +112,7 @@ fn begin(
 }
 
 // A file run on arguments over a lent store, in a lent work area, within a budget of steps.
-pub fn run(
-    file: &[u8],
-    args: &[u32],
-    store: &mut [u32],
-    work: &mut [u32],
-    budget: u32,
-) -> Answer
+pub fn run(file: &[u8], args: &[u32], store: &mut [u32], work: &mut [u32], budget: u32) -> Answer
     ensures { λ r. ⌜ ended r (now (store .exit)) (now (work .exit)) ≡ runOf (now (file .entry)) (now (args .entry)) (now (store .entry)) (now (work .entry)) budget ⌝ }
 {
     let j = judge(file);

@@ -9,7 +9,8 @@ use Rattle.machine.proofs.parameters.Reads as parameters-reads
 use Rattle.machine.proofs.refused.Reads as refused-reads
 use Rattle.machine.proofs.unfit.Reads as unfit-reads
 use mathlib.Core.Path.{sym, _∙_}
-use Rattle.machine.proofs.Running.{run-refused, tree, run-unfit, run-miscounted, run-opened}
+use Rattle.machine.proofs.Running.{run-refused, run-unfit, run-miscounted, run-opened}
+use Rattle.checker.proofs.Joining.{judged-accepts}
 
 judge-requires : tie.Need-judge-requires
 judge-requires c κs = search needs
@@ -27,7 +28,7 @@ refused-requires-2 : tie.Need-refused-requires-2
 refused-requires-2 c κs = search needs
 
 returns-2 : tie.Need-returns-2
-returns-2 c = run-unfit _ _ _ _ _ (c .before .before .before .before .before .judge .ensures) (tree _ _ _ _ _ (c .before .before .before .before .before .judge .ensures) (c .before .before .before .if1 .left)) (sym (c .before .before .unfit .ensures) ∙ c .before .if2 .taken) (c .refused2 .ensures)
+returns-2 c = run-unfit _ _ _ _ _ (c .before .before .before .before .before .judge .ensures) (judged-accepts _ (c .before .before .before .before .before .judge .ensures) (c .before .before .before .if1 .left)) (sym (c .before .before .unfit .ensures) ∙ c .before .if2 .taken) (c .refused2 .ensures)
 
 parameters-requires : tie.Need-parameters-requires
 parameters-requires c κs = search needs
@@ -36,10 +37,10 @@ refused-requires-3 : tie.Need-refused-requires-3
 refused-requires-3 c κs = search needs
 
 returns-3 : tie.Need-returns-3
-returns-3 c = run-miscounted _ _ _ _ _ (c .before .before .before .before .before .before .before .before .before .judge .ensures) (tree _ _ _ _ _ (c .before .before .before .before .before .before .before .before .before .judge .ensures) (c .before .before .before .before .before .before .before .if1 .left)) (sym (c .before .before .before .before .before .before .unfit .ensures) ∙ c .before .before .before .before .before .if2 .left) (λ e. c .before .if3 .taken (e ∙ sym (c .before .before .parameters .ensures .0))) (c .refused3 .ensures)
+returns-3 c = run-miscounted _ _ _ _ _ (c .before .before .before .before .before .before .before .before .before .judge .ensures) (judged-accepts _ (c .before .before .before .before .before .before .before .before .before .judge .ensures) (c .before .before .before .before .before .before .before .if1 .left)) (sym (c .before .before .before .before .before .before .unfit .ensures) ∙ c .before .before .before .before .before .if2 .left) (λ e. c .before .if3 .taken (e ∙ sym (c .before .before .parameters .ensures .0))) (c .refused3 .ensures)
 
 begin-requires : tie.Need-begin-requires
-begin-requires c κs = run-opened _ _ _ _ 0 (c .before .before .before .before .before .before .before .before .before .before .before .judge .ensures) (tree _ _ _ _ 0 (c .before .before .before .before .before .before .before .before .before .before .before .judge .ensures) (c .before .before .before .before .before .before .before .before .before .if1 .left)) (sym (c .before .before .before .before .before .before .before .before .unfit .ensures) ∙ c .before .before .before .before .before .before .before .if2 .left) (c .before .before .before .if3 .left ∙ c .before .before .before .before .parameters .ensures .0)
+begin-requires c κs = run-opened _ _ _ _ 0 (c .before .before .before .before .before .before .before .before .before .before .before .judge .ensures) (judged-accepts _ (c .before .before .before .before .before .before .before .before .before .before .before .judge .ensures) (c .before .before .before .before .before .before .before .before .before .if1 .left)) (sym (c .before .before .before .before .before .before .before .before .unfit .ensures) ∙ c .before .before .before .before .before .before .before .if2 .left) (c .before .before .before .if3 .left ∙ c .before .before .before .before .parameters .ensures .0)
 
 same-length : tie.Need-same-length
 same-length c = search needs
