@@ -1,9 +1,10 @@
 pub mod Turns
 pub mod Fine
+pub mod Cleared
+pub mod Goes
 pub mod Fields
 pub mod Told
 pub mod Simulate
-pub mod Cleared
 pub mod Single
 pub mod Answer
 pub mod Joined

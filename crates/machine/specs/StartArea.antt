@@ -2,16 +2,17 @@
 use Prim.Native.Nat.{ℕ, zero, suc, _+_, _-_, _*_, _/_, _%_, _≤_}
 use mathlib.Core.Path.{_≡_}
 use mathlib.Core.List.{List}
-use mathlib.Core.Bool.{Bool, false}
+use mathlib.Core.Bool.{Bool, true, false}
 use lib.Dec.{eqb, leb, ltb}
 use lib.ListN.{length, getD, set}
 use Rattle.meaning.specs.Choice.{pick}
+use Rattle.meaning.specs.Answers.{wiped}
 use Rattle.meaning.specs.Outcome.{Outcome, ok, refuse}
 use Rattle.meaning.specs.Syntax.{File}
 use Rattle.meaning.specs.Start.{start}
 use Rattle.standing.specs.Bytes.{paramsIn}
 use Rattle.standing.specs.Table.{Declared}
-use Rattle.machine.specs.StartWords.{sortAt, wordFine, kindOf, insideFine, modeAt, argFine, allFrom}
+use Rattle.machine.specs.StartWords.{sortAt, wordFine, kindOf, insideFine, modeAt, numberArg, treeArg, allFrom}
 
 pub record Area : Type 0 where
   pub work : List ℕ
@@ -43,10 +44,10 @@ cleared base (suc n) l = set (cleared base n l) (base + n) 0
 unfoldable pub usedOnce : List ℕ → ℕ → Bool
 usedOnce work c = pick (leb 1024 c) false (leb (getD work c 0) 1)
 
--- the answer by the tests: of the arguments, of the cells, of namings of the cells that owned arguments reach, of namings of all; and by
--- whether cells are held back
-unfoldable pub judged : (args cells owned all held : Bool) → ℕ
-judged args cells owned all held = pick args (pick cells (pick owned (pick all 0 (pick held 24 0)) 23) 22) 22
+-- the answer by the tests: of number arguments, of what owned and what lent arguments reach, of namings of the cells that owned arguments
+-- reach, of namings of all; and by whether cells are held back
+unfoldable pub judged : (numbers owned lent single all held : Bool) → ℕ
+judged numbers owned lent single all held = pick numbers (pick owned (pick lent (pick single (pick all 0 (pick held 24 0)) 23) 22) 22) 22
 
 module _ (bytes table store : List ℕ) where
   unfoldable pub nameAt : ℕ → Area → ℕ → Area
@@ -68,37 +69,75 @@ module _ (bytes table store : List ℕ) where
   drainAt base zero h a = a
   drainAt base (suc n) h a = pick (leb (a .tail) h) a (drainAt base n (suc h) (expandAt base a (getD (a .work) (base + 1024 + h) 0)))
 
-  -- the arguments of a mode, n of them from i on
+  -- the words in the tree fields of the cells that are expanded there
+  unfoldable pub drainFine : (base fuel head : ℕ) → Area → Bool
+  drainFine base zero h a = true
+  drainFine base (suc n) h a =
+      pick (leb (a .tail) h) true
+      (pick (insideFine bytes table store (getD (a .work) (base + 1024 + h) 0))
+      (drainFine base n (suc h) (expandAt base a (getD (a .work) (base + 1024 + h) 0))) false)
+
+  -- an argument, if it is of a mode; n arguments from i on
+  unfoldable pub argAt : (base : ℕ) → (args : List ℕ) → (mode i : ℕ) → Area → Area
+  argAt base args mode i a = pick (eqb (modeAt bytes table i) mode) (nameAt base a (getD args i 0)) a
+
   unfoldable pub argsAt : (base : ℕ) → (args : List ℕ) → (mode n i : ℕ) → Area → Area
   argsAt base args mode zero i a = a
-  argsAt base args mode (suc n) i a =
-      argsAt base args mode n (suc i) (pick (eqb (modeAt bytes table i) mode) (nameAt base a (getD args i 0)) a)
+  argsAt base args mode (suc n) i a = argsAt base args mode n (suc i) (argAt base args mode i a)
 
   module _ (args : List ℕ) where
-    -- the cells reached from owned arguments; those reached from any, behind them; those that no cycle holds back
+    abbrev pub argsFine : ℕ → Bool
+    argsFine mode = allFrom (λ i. treeArg bytes table store args mode i) (length args) 0
+
+    -- the cells reached from owned arguments; those reached from any, behind them; those that no cycle holds back; and whether words that
+    -- are not malformed are all that is met
+    abbrev pub ownedBegun : List ℕ → Area
+    ownedBegun work = argsAt 0 args 2 (length args) 0 (area (cleared 0 (length store / 5) work) 0)
+
     unfoldable pub ownedArea : List ℕ → Area
-    ownedArea work = drainAt 0 1024 0 (argsAt 0 args 2 (length args) 0 (area (cleared 0 (length store / 5) work) 0))
+    ownedArea work = drainAt 0 1024 0 (ownedBegun work)
+
+    unfoldable pub ownedFine : List ℕ → Bool
+    ownedFine work = pick (argsFine 2) (drainFine 0 1024 0 (ownedBegun work)) false
+
+    abbrev pub allBegun : Area → Area
+    allBegun a = argsAt 0 args 1 (length args) 0 a
 
     unfoldable pub allArea : Area → Area
-    allArea a = drainAt 0 1024 (a .tail) (argsAt 0 args 1 (length args) 0 a)
+    allArea a = drainAt 0 1024 (a .tail) (allBegun a)
+
+    unfoldable pub allFine : Area → Bool
+    allFine a = pick (argsFine 1) (drainFine 0 1024 (a .tail) (allBegun a)) false
+
+    abbrev pub freeBegun : List ℕ → Area
+    freeBegun work = argsAt 2048 args 1 (length args) 0 (argsAt 2048 args 2 (length args) 0 (area (cleared 2048 (length store / 5) work) 0))
 
     unfoldable pub freeArea : List ℕ → Area
-    freeArea work =
-        drainAt 2048 1024 0
-        (argsAt 2048 args 1 (length args) 0 (argsAt 2048 args 2 (length args) 0 (area (cleared 2048 (length store / 5) work) 0)))
+    freeArea work = drainAt 2048 1024 0 (freeBegun work)
+
+    unfoldable pub freeFine : List ℕ → Bool
+    freeFine work = pick (argsFine 2) (pick (argsFine 1) (drainFine 2048 1024 0 (freeBegun work)) false) false
 
     -- the tests on the areas after the three walks
-    unfoldable pub answerAt : (o a f : Area) → ℕ
-    answerAt o a f =
-        judged (allFrom (λ i. argFine bytes table store (modeAt bytes table i) (getD args i 0)) (length args) 0)
-        (allFrom (λ i. insideFine bytes table store (getD (a .work) (1024 + i) 0)) (a .tail) 0)
+    unfoldable pub answerAt : (work : List ℕ) (o a f : Area) → ℕ
+    answerAt work o a f =
+        judged (allFrom (λ i. numberArg (modeAt bytes table i) (getD args i 0)) (length args) 0)
+        (ownedFine work)
+        (allFine o)
         (allFrom (λ i. usedOnce (a .work) (getD (a .work) (1024 + i) 0)) (o .tail) 0)
         (allFrom (λ i. usedOnce (a .work) (getD (a .work) (1024 + i) 0)) (a .tail) 0)
         (ltb (f .tail) (a .tail))
 
     -- what the code answers
     unfoldable pub startAt : List ℕ → ℕ
-    startAt work = answerAt (ownedArea work) (allArea (ownedArea work)) (freeArea (allArea (ownedArea work) .work))
+    startAt work = answerAt work (ownedArea work) (allArea (ownedArea work)) (freeArea (allArea (ownedArea work) .work))
+
+-- A part of a walk: 4,096 comes back where a word was malformed, and else the tail of the area as it is then; behind the first 4,096 words
+-- nothing is changed
+pub record Went (before after : List ℕ) (r : ℕ) (fine : Bool) (a : Area) : Type 0 where
+  pub same : wiped 4096 after ≡ wiped 4096 before
+  pub out : r ≡ 4096 → fine ≡ false
+  pub on : (r ≡ 4096 → ⊥) → (fine ≡ true) × (area after r ≡ a) × (r ≤ 1024)
 
 -- an answer as the meaning has it
 unfoldable pub outcome : ℕ → Outcome (Unit {0})

@@ -52,8 +52,13 @@ insideFine bytes table store c =
 abbrev pub modeAt : (bytes table : List ℕ) → ℕ → ℕ
 modeAt bytes table i = byteAt bytes (getD table 64 0 / 256 + i)
 
-unfoldable pub argFine : (bytes table store : List ℕ) (mode w : ℕ) → Bool
-argFine bytes table store mode w = pick (eqb mode 0) (ltb w 65536) (wordFine bytes table store w)
+-- an argument of another mode, or a number
+unfoldable pub numberArg : (mode w : ℕ) → Bool
+numberArg mode w = pick (eqb mode 0) (ltb w 65536) true
+
+-- an argument of another mode, or a tree word that is not malformed
+unfoldable pub treeArg : (bytes table store args : List ℕ) (mode i : ℕ) → Bool
+treeArg bytes table store args mode i = pick (eqb (modeAt bytes table i) mode) (wordFine bytes table store (getD args i 0)) true
 
 -- f i, f (i + 1), .., n of them
 unfoldable pub allFrom : (ℕ → Bool) → (n i : ℕ) → Bool

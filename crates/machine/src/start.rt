@@ -3,9 +3,12 @@ ghost use mathlib.Core.Path.{_≡_};
 ghost use Prim.Native.Nat.{_+_, _/_, _<_, _≤_};
 ghost use lib.ListN.{length, getD};
 ghost use Rattle.standing.specs.Bytes.{byteAt};
-ghost use Rattle.machine.specs.StartWords.{sortAt, numberFine, cellFine, wordFine, fieldFine, insideFine, modeAt, argFine, allFrom};
-ghost use Rattle.machine.specs.StartArea.{area, bumpTo, bump, cleared, usedOnce, nameAt, fieldAt, expandAt, drainAt, argsAt, ownedArea, allArea, freeArea, Passed, Meant};
+ghost use Rattle.machine.specs.StartWords.{sortAt, numberFine, cellFine, wordFine, fieldFine, insideFine, modeAt, numberArg, treeArg, allFrom};
+ghost use Rattle.machine.specs.StartArea.{area, bumpTo, bump, cleared, usedOnce, nameAt, fieldAt, expandAt, drainAt, drainFine, argAt, argsAt, argsFine, ownedArea, ownedFine, allArea, allFine, freeArea, freeFine, Went, Passed, Meant};
 ghost use Rattle.meaning.specs.Answers.{wiped};
+
+// What comes back from a walk that has met a malformed word: no queue is as long.
+const BAD: usize = 4096;
 
 // A byte of the file, 0 past its end.
 fn byte_at(file: &[u8], at: usize) -> u32
@@ -93,7 +96,7 @@ fn word_fine(file: &[u8], decl: &[u32; 128], store: &[u32], w: u32) -> bool
 // One more naming of a cell, which is queued when the goal is met.
 fn bump_to(work: &mut [u32], base: usize, goal: u32, tail: usize, c: usize) -> usize
     requires { ⌜ (base ≤ 2048) × (c < 1024) × (tail ≤ 1024) × (4096 ≤ length (now work)) ⌝ }
-    ensures { λ r. ⌜ (area (now (work .exit)) r ≡ bumpTo base goal (area (now (work .entry)) tail) c) × (r ≤ 1024) ⌝ }
+    ensures { λ r. ⌜ (area (now (work .exit)) r ≡ bumpTo base goal (area (now (work .entry)) tail) c) × (r ≤ 1024) × (wiped 4096 (now (work .exit)) ≡ wiped 4096 (now (work .entry))) ⌝ }
 {
     let n = std::num::wrapping_add_u32(work[base + c], 1);
     work[base + c] = n;
@@ -110,7 +113,7 @@ fn bump_to(work: &mut [u32], base: usize, goal: u32, tail: usize, c: usize) -> u
 // The goal of the first walk is the first naming; that of the second is the last, which the first has counted.
 fn bump_cell(work: &mut [u32], base: usize, tail: usize, c: usize) -> usize
     requires { ⌜ (base ≤ 2048) × (c < 1024) × (tail ≤ 1024) × (4096 ≤ length (now work)) ⌝ }
-    ensures { λ r. ⌜ (area (now (work .exit)) r ≡ bump base (area (now (work .entry)) tail) c) × (r ≤ 1024) ⌝ }
+    ensures { λ r. ⌜ (area (now (work .exit)) r ≡ bump base (area (now (work .entry)) tail) c) × (r ≤ 1024) × (wiped 4096 (now (work .exit)) ≡ wiped 4096 (now (work .entry))) ⌝ }
 {
     if base == 0 {
         return bump_to(work, base, 1, tail, c);
@@ -119,7 +122,7 @@ fn bump_cell(work: &mut [u32], base: usize, tail: usize, c: usize) -> usize
     bump_to(work, base, goal, tail, c)
 }
 
-// The cell that a word names, if it is well formed and names one.
+// The cell that a word names, if it names one.
 fn name_word(
     file: &[u8],
     decl: &[u32; 128],
@@ -130,15 +133,15 @@ fn name_word(
     w: u32,
 ) -> usize
     requires { ⌜ (base ≤ 2048) × (tail ≤ 1024) × (4096 ≤ length (now work)) × (length (now store) ≤ 5120) ⌝ }
-    ensures { λ r. ⌜ (area (now (work .exit)) r ≡ nameAt (now (file .entry)) (now (decl .entry)) (now (store .entry)) base (area (now (work .entry)) tail) w) × (r ≤ 1024) ⌝ }
+    ensures { λ r. ⌜ Went (now (work .entry)) (now (work .exit)) r (wordFine (now (file .entry)) (now (decl .entry)) (now (store .entry)) w) (nameAt (now (file .entry)) (now (decl .entry)) (now (store .entry)) base (area (now (work .entry)) tail) w) ⌝ }
 {
+    let f = word_fine(file, decl, store, w);
+    if !f {
+        return BAD;
+    }
     if 65536 <= w {
-        let f = word_fine(file, decl, store, w);
-        if f {
-            let c = (w - 65536) as usize;
-            return bump_cell(work, base, tail, c);
-        }
-        return tail;
+        let c = (w - 65536) as usize;
+        return bump_cell(work, base, tail, c);
     }
     tail
 }
@@ -156,7 +159,7 @@ fn name_field(
     w: u32,
 ) -> usize
     requires { ⌜ (base ≤ 2048) × (tail ≤ 1024) × (4096 ≤ length (now work)) × (length (now store) ≤ 5120) × (i < 4) ⌝ }
-    ensures { λ r. ⌜ (area (now (work .exit)) r ≡ fieldAt (now (file .entry)) (now (decl .entry)) (now (store .entry)) base kind i w (area (now (work .entry)) tail)) × (r ≤ 1024) ⌝ }
+    ensures { λ r. ⌜ Went (now (work .entry)) (now (work .exit)) r (fieldFine (now (file .entry)) (now (decl .entry)) (now (store .entry)) kind i w) (fieldAt (now (file .entry)) (now (decl .entry)) (now (store .entry)) base kind i w (area (now (work .entry)) tail)) ⌝ }
 {
     let s = sort_of(file, kind, i);
     if s == 2 {
@@ -176,7 +179,7 @@ fn expand(
     c: usize,
 ) -> usize
     requires { ⌜ (base ≤ 2048) × (tail ≤ 1024) × (4096 ≤ length (now work)) × (length (now store) ≤ 5120) × (c < 4294967296) ⌝ }
-    ensures { λ r. ⌜ (area (now (work .exit)) r ≡ expandAt (now (file .entry)) (now (decl .entry)) (now (store .entry)) base (area (now (work .entry)) tail) c) × (r ≤ 1024) ⌝ }
+    ensures { λ r. ⌜ Went (now (work .entry)) (now (work .exit)) r (insideFine (now (file .entry)) (now (decl .entry)) (now (store .entry)) c) (expandAt (now (file .entry)) (now (decl .entry)) (now (store .entry)) base (area (now (work .entry)) tail) c) ⌝ }
 {
     let at = 5 * c;
     if store.len() < at + 5 {
@@ -187,14 +190,19 @@ fn expand(
         return tail;
     }
     let kind = decl[con];
-    let w0 = store[at + 1];
-    let w1 = store[at + 2];
-    let w2 = store[at + 3];
-    let w3 = store[at + 4];
-    let t0 = name_field(file, decl, store, work, base, tail, kind, 0, w0);
-    let t1 = name_field(file, decl, store, work, base, t0, kind, 1, w1);
-    let t2 = name_field(file, decl, store, work, base, t1, kind, 2, w2);
-    name_field(file, decl, store, work, base, t2, kind, 3, w3)
+    let t0 = name_field(file, decl, store, work, base, tail, kind, 0, store[at + 1]);
+    if t0 == BAD {
+        return BAD;
+    }
+    let t1 = name_field(file, decl, store, work, base, t0, kind, 1, store[at + 2]);
+    if t1 == BAD {
+        return BAD;
+    }
+    let t2 = name_field(file, decl, store, work, base, t1, kind, 2, store[at + 3]);
+    if t2 == BAD {
+        return BAD;
+    }
+    name_field(file, decl, store, work, base, t2, kind, 3, store[at + 4])
 }
 
 // Cells are expanded in the order in which they were queued.
@@ -208,7 +216,7 @@ fn drain_queue(
     tail: usize,
 ) -> usize
     requires { ⌜ (base ≤ 2048) × (tail ≤ 1024) × (head ≤ 1024) × (4096 ≤ length (now work)) × (length (now store) ≤ 5120) ⌝ }
-    ensures { λ r. ⌜ (area (now (work .exit)) r ≡ drainAt (now (file .entry)) (now (decl .entry)) (now (store .entry)) base 1024 head (area (now (work .entry)) tail)) × (r ≤ 1024) ⌝ }
+    ensures { λ r. ⌜ Went (now (work .entry)) (now (work .exit)) r (drainFine (now (file .entry)) (now (decl .entry)) (now (store .entry)) base 1024 head (area (now (work .entry)) tail)) (drainAt (now (file .entry)) (now (decl .entry)) (now (store .entry)) base 1024 head (area (now (work .entry)) tail)) ⌝ }
 {
     let mut t = tail;
     let mut n: usize = 0;
@@ -219,6 +227,9 @@ fn drain_queue(
         }
         let c = work[base + 1024 + h] as usize;
         t = expand(file, decl, store, work, base, t, c);
+        if t == BAD {
+            return BAD;
+        }
         n += 1;
     }
     t
@@ -241,6 +252,28 @@ fn mode_of(file: &[u8], decl: &[u32; 128], i: usize) -> u32
     mode_at(file, head, i)
 }
 
+// The cell that an argument names, if it is of a mode.
+fn name_arg(
+    file: &[u8],
+    decl: &[u32; 128],
+    store: &[u32],
+    args: &[u32],
+    work: &mut [u32],
+    base: usize,
+    tail: usize,
+    mode: u32,
+    i: usize,
+) -> usize
+    requires { ⌜ (base ≤ 2048) × (tail ≤ 1024) × (4096 ≤ length (now work)) × (length (now store) ≤ 5120) × (i < length (now args)) × (i < 255) ⌝ }
+    ensures { λ r. ⌜ Went (now (work .entry)) (now (work .exit)) r (treeArg (now (file .entry)) (now (decl .entry)) (now (store .entry)) (now (args .entry)) mode i) (argAt (now (file .entry)) (now (decl .entry)) (now (store .entry)) base (now (args .entry)) mode i (area (now (work .entry)) tail)) ⌝ }
+{
+    let m = mode_of(file, decl, i);
+    if m == mode {
+        return name_word(file, decl, store, work, base, tail, args[i]);
+    }
+    tail
+}
+
 // The cells that the arguments of a mode name.
 fn name_args(
     file: &[u8],
@@ -253,14 +286,14 @@ fn name_args(
     mode: u32,
 ) -> usize
     requires { ⌜ (base ≤ 2048) × (tail ≤ 1024) × (4096 ≤ length (now work)) × (length (now store) ≤ 5120) × (length (now args) ≤ 255) ⌝ }
-    ensures { λ r. ⌜ (area (now (work .exit)) r ≡ argsAt (now (file .entry)) (now (decl .entry)) (now (store .entry)) base (now (args .entry)) mode (length (now (args .entry))) 0 (area (now (work .entry)) tail)) × (r ≤ 1024) ⌝ }
+    ensures { λ r. ⌜ Went (now (work .entry)) (now (work .exit)) r (argsFine (now (file .entry)) (now (decl .entry)) (now (store .entry)) (now (args .entry)) mode) (argsAt (now (file .entry)) (now (decl .entry)) (now (store .entry)) base (now (args .entry)) mode (length (now (args .entry))) 0 (area (now (work .entry)) tail)) ⌝ }
 {
     let mut t = tail;
     let mut i: usize = 0;
     while i < args.len() {
-        let m = mode_of(file, decl, i);
-        if m == mode {
-            t = name_word(file, decl, store, work, base, t, args[i]);
+        t = name_arg(file, decl, store, args, work, base, t, mode, i);
+        if t == BAD {
+            return BAD;
         }
         i += 1;
     }
@@ -291,83 +324,25 @@ pub(crate) fn wipe(work: &mut [u32])
     }
 }
 
-// An argument that is a number, or a tree word that is not malformed.
-fn arg_fine(file: &[u8], decl: &[u32; 128], store: &[u32], mode: u32, w: u32) -> bool
-    ensures { λ r. ⌜ r ≡ argFine (now (file .entry)) (now (decl .entry)) (now (store .entry)) mode w ⌝ }
+// An argument of another mode, or a number.
+fn number_arg(mode: u32, w: u32) -> bool
+    ensures { λ r. ⌜ r ≡ numberArg mode w ⌝ }
 {
     if mode == 0 {
         return w < 65536;
     }
-    word_fine(file, decl, store, w)
+    true
 }
 
-// Every argument is fine.
-fn args_fine(file: &[u8], decl: &[u32; 128], store: &[u32], args: &[u32]) -> bool
+// Every number argument is a number.
+fn numbers_fine(file: &[u8], decl: &[u32; 128], args: &[u32]) -> bool
     requires { ⌜ length (now args) ≤ 255 ⌝ }
-    ensures { λ r. ⌜ r ≡ allFrom (λ i. argFine (now (file .entry)) (now (decl .entry)) (now (store .entry)) (modeAt (now (file .entry)) (now (decl .entry)) i) (getD (now (args .entry)) i 0)) (length (now (args .entry))) 0 ⌝ }
+    ensures { λ r. ⌜ r ≡ allFrom (λ i. numberArg (modeAt (now (file .entry)) (now (decl .entry)) i) (getD (now (args .entry)) i 0)) (length (now (args .entry))) 0 ⌝ }
 {
     let mut i: usize = 0;
     while i < args.len() {
         let m = mode_of(file, decl, i);
-        let f = arg_fine(file, decl, store, m, args[i]);
-        if !f {
-            return false;
-        }
-        i += 1;
-    }
-    true
-}
-
-// A field that is no tree, or a word that is not malformed.
-fn field_fine(file: &[u8], decl: &[u32; 128], store: &[u32], kind: u32, i: u32, w: u32) -> bool
-    requires { ⌜ i < 4 ⌝ }
-    ensures { λ r. ⌜ r ≡ fieldFine (now (file .entry)) (now (decl .entry)) (now (store .entry)) kind i w ⌝ }
-{
-    let s = sort_of(file, kind, i);
-    if s == 2 {
-        return word_fine(file, decl, store, w);
-    }
-    true
-}
-
-// The words in the tree fields of a cell are not malformed.
-fn inside_fine(file: &[u8], decl: &[u32; 128], store: &[u32], c: usize) -> bool
-    requires { ⌜ c < 4294967296 ⌝ }
-    ensures { λ r. ⌜ r ≡ insideFine (now (file .entry)) (now (decl .entry)) (now (store .entry)) c ⌝ }
-{
-    let base = 5 * c;
-    if store.len() < base + 5 {
-        return true;
-    }
-    let con = store[base] as usize;
-    if 64 <= con {
-        return true;
-    }
-    let kind = decl[con];
-    let n0 = field_fine(file, decl, store, kind, 0, store[base + 1]);
-    if !n0 {
-        return false;
-    }
-    let n1 = field_fine(file, decl, store, kind, 1, store[base + 2]);
-    if !n1 {
-        return false;
-    }
-    let n2 = field_fine(file, decl, store, kind, 2, store[base + 3]);
-    if !n2 {
-        return false;
-    }
-    field_fine(file, decl, store, kind, 3, store[base + 4])
-}
-
-// The words in the tree fields of every queued cell are not malformed.
-fn cells_fine(file: &[u8], decl: &[u32; 128], store: &[u32], work: &[u32], tail: usize) -> bool
-    requires { ⌜ (4096 ≤ length (now work)) × (tail ≤ 1024) ⌝ }
-    ensures { λ r. ⌜ r ≡ allFrom (λ i. insideFine (now (file .entry)) (now (decl .entry)) (now (store .entry)) (getD (now (work .entry)) (1024 + i) 0)) tail 0 ⌝ }
-{
-    let mut i: usize = 0;
-    while i < tail {
-        let c = work[1024 + i] as usize;
-        let f = inside_fine(file, decl, store, c);
+        let f = number_arg(m, args[i]);
         if !f {
             return false;
         }
@@ -404,10 +379,13 @@ fn walk_owned(
     work: &mut [u32],
 ) -> usize
     requires { ⌜ (4096 ≤ length (now work)) × (length (now store) ≤ 5120) × (length (now args) ≤ 255) ⌝ }
-    ensures { λ r. ⌜ (area (now (work .exit)) r ≡ ownedArea (now (file .entry)) (now (decl .entry)) (now (store .entry)) (now (args .entry)) (now (work .entry))) × (r ≤ 1024) ⌝ }
+    ensures { λ r. ⌜ Went (now (work .entry)) (now (work .exit)) r (ownedFine (now (file .entry)) (now (decl .entry)) (now (store .entry)) (now (args .entry)) (now (work .entry))) (ownedArea (now (file .entry)) (now (decl .entry)) (now (store .entry)) (now (args .entry)) (now (work .entry))) ⌝ }
 {
     clear(work, 0, store.len() / 5);
     let t = name_args(file, decl, store, args, work, 0, 0, 2);
+    if t == BAD {
+        return BAD;
+    }
     drain_queue(file, decl, store, work, 0, 0, t)
 }
 
@@ -418,23 +396,32 @@ fn walk_lent(
     store: &[u32],
     args: &[u32],
     work: &mut [u32],
-    owned: usize,
+    tail: usize,
 ) -> usize
-    requires { ⌜ (4096 ≤ length (now work)) × (length (now store) ≤ 5120) × (length (now args) ≤ 255) × (owned ≤ 1024) ⌝ }
-    ensures { λ r. ⌜ (area (now (work .exit)) r ≡ allArea (now (file .entry)) (now (decl .entry)) (now (store .entry)) (now (args .entry)) (area (now (work .entry)) owned)) × (r ≤ 1024) ⌝ }
+    requires { ⌜ (4096 ≤ length (now work)) × (length (now store) ≤ 5120) × (length (now args) ≤ 255) × (tail ≤ 1024) ⌝ }
+    ensures { λ r. ⌜ Went (now (work .entry)) (now (work .exit)) r (allFine (now (file .entry)) (now (decl .entry)) (now (store .entry)) (now (args .entry)) (area (now (work .entry)) tail)) (allArea (now (file .entry)) (now (decl .entry)) (now (store .entry)) (now (args .entry)) (area (now (work .entry)) tail)) ⌝ }
 {
-    let t = name_args(file, decl, store, args, work, 0, owned, 1);
-    drain_queue(file, decl, store, work, 0, owned, t)
+    let t = name_args(file, decl, store, args, work, 0, tail, 1);
+    if t == BAD {
+        return BAD;
+    }
+    drain_queue(file, decl, store, work, 0, tail, t)
 }
 
 // The cells that no cycle holds back: each is queued at its last naming.
 fn walk_free(file: &[u8], decl: &[u32; 128], store: &[u32], args: &[u32], work: &mut [u32]) -> usize
     requires { ⌜ (4096 ≤ length (now work)) × (length (now store) ≤ 5120) × (length (now args) ≤ 255) ⌝ }
-    ensures { λ r. ⌜ (area (now (work .exit)) r ≡ freeArea (now (file .entry)) (now (decl .entry)) (now (store .entry)) (now (args .entry)) (now (work .entry))) × (r ≤ 1024) ⌝ }
+    ensures { λ r. ⌜ Went (now (work .entry)) (now (work .exit)) r (freeFine (now (file .entry)) (now (decl .entry)) (now (store .entry)) (now (args .entry)) (now (work .entry))) (freeArea (now (file .entry)) (now (decl .entry)) (now (store .entry)) (now (args .entry)) (now (work .entry))) ⌝ }
 {
     clear(work, 2048, store.len() / 5);
     let t = name_args(file, decl, store, args, work, 2048, 0, 2);
+    if t == BAD {
+        return BAD;
+    }
     let u = name_args(file, decl, store, args, work, 2048, t, 1);
+    if u == BAD {
+        return BAD;
+    }
     drain_queue(file, decl, store, work, 2048, 0, u)
 }
 
@@ -449,14 +436,16 @@ pub(crate) fn start_answer(
     requires { ⌜ Passed (now file) (now decl) (now args) (now store) (now work) ⌝ }
     ensures { λ r. ⌜ Meant (now (file .entry)) (now (decl .entry)) (now (args .entry)) (now (store .entry)) (now (work .entry)) r × (wiped 4096 (now (work .exit)) ≡ wiped 4096 (now (work .entry))) ⌝ }
 {
-    let fine = args_fine(file, decl, store, args);
+    let fine = numbers_fine(file, decl, args);
     if !fine {
         return 22;
     }
     let owned = walk_owned(file, decl, store, args, work);
+    if owned == BAD {
+        return 22;
+    }
     let all = walk_lent(file, decl, store, args, work, owned);
-    let inner = cells_fine(file, decl, store, work, all);
-    if !inner {
+    if all == BAD {
         return 22;
     }
     let own = used_once(work, owned);

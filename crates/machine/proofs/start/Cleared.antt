@@ -4,7 +4,7 @@ use mathlib.Core.Path.{_≡_, refl, sym, ap, _∙_}
 use mathlib.Core.Logic.{⊎-elim}
 use mathlib.Core.List.{List, _++_}
 use native.Mathlib.Omega.{arith}
-use lib.ListN.{length, getD, drop, replicate, length-set, length-drop}
+use lib.ListN.{length, getD, set, drop, replicate, length-set, length-drop}
 use lib.Seq.{getD-set-same, getD-set-other, getD-drop, ext-getD}
 use Rattle.meaning.specs.Answers.{wiped}
 use Rattle.theory.proofs.StartCounting.{same?}
@@ -41,3 +41,9 @@ wiped-same n u v e h =
     ap (λ (l : List ℕ). replicate n 0 ++ l)
     (ext-getD 0 (drop n u) (drop n v) (simp length-drop (ap (λ k. k - n) e))
     (λ i p. getD-drop n u i 0 ∙ h (n + i) (omega arith) ∙ sym (getD-drop n v i 0)))
+
+pub wiped-set : (w : List ℕ) (i v : ℕ) → i < 4096 → wiped 4096 (set w i v) ≡ wiped 4096 w
+wiped-set w i v h = wiped-same 4096 (set w i v) w (length-set w i v) (λ j k. getD-set-other w i j v 0 (λ z. omega arith))
+
+pub wiped-cleared : (base n : ℕ) (w : List ℕ) → base + n ≤ 4096 → wiped 4096 (cleared base n w) ≡ wiped 4096 w
+wiped-cleared base n w h = wiped-same 4096 (cleared base n w) w (cleared-length base n w) (λ j k. cleared-over base n w j (omega arith))

@@ -2,28 +2,29 @@
 use Prim.Native.Nat.{ℕ, zero, suc, _+_, _-_, _*_, _/_, _%_, _≤_, _<_}
 use mathlib.Core.Path.{_≡_, refl, sym, ap, _∙_, subst}
 use mathlib.Core.Logic.{⊎-elim}
-use mathlib.Core.List.{List, [], _∷_}
-use mathlib.Core.Bool.{Bool, true, false}
+use mathlib.Core.List.{List, [], _∷_, _++_, append-assoc}
+use mathlib.Core.Bool.{Bool, true, false, not, _||_}
 use native.Mathlib.Omega.{arith}
 use lib.Dec.{eqb}
-use lib.ListN.{length, getD, set, drop, length-append, length-set, List·getD-append}
+use lib.ListN.{length, getD, set, drop, length-append, length-set, drop-of-length-le, List·getD-append}
 use lib.Seq.{getD-set-same, getD-set-other, getD-at, drop-cons}
 use borrow.Author.Tests.{le-leb, lt-leb, le-ltb, eq-eqb, ne-eqb}
 use Rattle.meaning.specs.Choice.{pick}
 use Rattle.meaning.specs.Syntax.{Sort, Mode, Constructor}
 use Rattle.meaning.specs.Walk.{count, Walk, walk, visit, visits, drain}
 use Rattle.meaning.specs.Machine.{cell}
-use Rattle.meaning.specs.Start.{word-ok, tree-words, named, kids, chosen}
+use Rattle.meaning.specs.Start.{any, word-ok, inside, tree-words, named, kids, chosen}
 use Rattle.standing.specs.Table.{Modes, mode-byte}
 use Rattle.theory.proofs.Reached.{count-cons}
 use Rattle.theory.proofs.StartCounting.{same?, le?, bool?, one-same, one-other, few, count-at}
-use Rattle.theory.proofs.StartWalk.{Kept, visit-kept, taken, passed, met, met-count}
+use Rattle.theory.proofs.StartWalk.{Kept, visit-kept, taken, passed, met, met-count, visits-grows}
+use Rattle.theory.proofs.StartReached.{drain-grows}
 use Rattle.theory.proofs.StartWords.{named-cell, named-bad, named-atom}
-use Rattle.machine.specs.StartWords.{sortAt, wordFine, kindOf, modeAt}
-use Rattle.machine.specs.StartArea.{Area, area, counted, bumpTo, bump, nameAt, fieldAt, expandAt, drainAt, argsAt}
+use Rattle.machine.specs.StartWords.{sortAt, wordFine, kindOf, insideFine, modeAt}
+use Rattle.machine.specs.StartArea.{Area, area, counted, bumpTo, bump, nameAt, fieldAt, expandAt, drainAt, drainFine, argAt, argsAt}
 use Rattle.machine.proofs.start.Fine.{fine-cell}
 use Rattle.machine.proofs.start.Fields.{Left, left-next, left-sort, left-none}
-use Rattle.machine.proofs.start.Told.{Ground, kind-none, kind-left, kind-small, word-is, inside-by}
+use Rattle.machine.proofs.start.Told.{Ground, kind-none, kind-left, kind-small, word-is, inside-by, inside-is}
 
 count-length : (x : ℕ) (l : List ℕ) → count x l ≤ length l
 count-length x [] = omega arith
@@ -54,11 +55,16 @@ count-step base room w seen c n x l hx e k =
     (λ (q : x ≡ c → ⊥). getD-set-other w (base + c) (base + x) n 0 (λ r. q (omega arith)) ∙ k x hx ∙ omega (arith, count-cons x c seen, one-other x c q))
     (same? x c)
 
+pub or-not : (a b : Bool) → pick (not a) (not b) false ≡ not (a || b)
+unfolding pick
+or-not true b = refl
+or-not false b = refl
+
 -- an argument is of the modes chosen, or not
-chosen-in : (test : Mode → Bool) (k : Mode) (ms : List Mode) (w : ℕ) (ws : List ℕ) → test k ≡ true → chosen test (k ∷ ms) (w ∷ ws) ≡ w ∷ chosen test ms ws
+pub chosen-in : (test : Mode → Bool) (k : Mode) (ms : List Mode) (w : ℕ) (ws : List ℕ) → test k ≡ true → chosen test (k ∷ ms) (w ∷ ws) ≡ w ∷ chosen test ms ws
 chosen-in test k ms w ws q = rw (q, chosen)
 
-chosen-out : (test : Mode → Bool) (k : Mode) (ms : List Mode) (w : ℕ) (ws : List ℕ) → test k ≡ false → chosen test (k ∷ ms) (w ∷ ws) ≡ chosen test ms ws
+pub chosen-out : (test : Mode → Bool) (k : Mode) (ms : List Mode) (w : ℕ) (ws : List ℕ) → test k ≡ false → chosen test (k ∷ ms) (w ∷ ws) ≡ chosen test ms ws
 chosen-out test k ms w ws q = rw (q, chosen)
 
 -- the area holds the walk: its counts from `base` on, its queue behind them, and nothing else is changed
@@ -298,11 +304,40 @@ module _ (bytes table store : List ℕ) (g : Ground bytes table store) (base : �
       (drain-rep n (suc h) (m + 4) s₁ (expandAt bytes table store base a c) (omega arith) (expand-rep m s a c (omega arith) f r))))
       (le? (length (s .queue)) h)
 
+  -- the words in the cells that are expanded
+  abbrev bad-cell : ℕ → Bool
+  bad-cell c = any (λ w. not (word-ok cs store w)) (inside cs store c)
+
+  pub drain-fine : (n h m : ℕ) (s : Walk) (a : Area) → m + 4 * n < 4294967295 → 1024 ≤ n + h → Holds m s a
+      → drainFine bytes table store base n h a ≡ not (any (λ c. any (λ w. not (word-ok cs store w)) (inside cs store c)) (drop h (drain (kids cs store) t n h s .queue)))
+  unfolding drain drainFine pick
+  drain-fine zero h m s a hm k r =
+      let l : length (s .queue) ≤ h = omega (arith, queue-fits s (r .kept) (r .fine)) in
+      rw (drop-of-length-le (s .queue) l)
+  drain-fine (suc n) h m s a hm k r =
+      let en = r .tails in
+      ⊎-elim
+      (λ (p : length (s .queue) ≤ h). rw (le-leb (length (s .queue)) h p, le-leb (a .tail) h (omega arith), drop-of-length-le (s .queue) p))
+      (λ (p : h < length (s .queue)).
+      let c = getD (s .queue) h 0 in
+      let f : wordFine bytes table store (65536 + c) ≡ true = r .fine c (let o = r .kept .outs c (count-at (s .queue) h p) in omega (arith, o .0, o .1)) in
+      let s₁ = visits t s (kids cs store c) in
+      let q = drain (kids cs store) t n (suc h) s₁ .queue in
+      let x = visits-grows t s (kids cs store c) in
+      let y = drain-grows (kids cs store) t n (suc h) s₁ in
+      let e : q ≡ s .queue ++ (x .0 ++ y .0) = y .1 ∙ ap (λ l. l ++ y .0) (x .1) ∙ append-assoc (s .queue) (x .0) (y .0) in
+      let l : h < length q = rw e (simp length-append (omega arith)) in
+      let d : drop h q ≡ c ∷ drop (suc h) q = drop-cons q h 0 l ∙ ap (λ z. z ∷ drop (suc h) q) (ap (λ (u : List ℕ). getD u h 0) e ∙ List·getD-append (s .queue) (x .0 ++ y .0) 0 h p) in
+      let here : insideFine bytes table store c ≡ not (bad-cell c) = inside-is bytes table store g c (stored c f) (con-there c f) in
+      let rest = drain-fine n (suc h) (m + 4) s₁ (expandAt bytes table store base a c) (omega arith) (omega arith) (expand-rep m s a c (omega arith) f r) in
+      rw (lt-leb (length (s .queue)) h p, lt-leb (a .tail) h (omega arith), r .order h p, d, here, rest) (or-not (bad-cell c) (any bad-cell (drop (suc h) q))))
+      (le? (length (s .queue)) h)
+
   -- the arguments of a mode
   module _ (args : List ℕ) (test : Mode → Bool) (mode : ℕ) (says : (k : Mode) → eqb (mode-byte k) mode ≡ test k) where
     pub args-rep : (n i m : ℕ) (ms : List Mode) (s : Walk) (a : Area) → length ms ≡ n → i + n ≡ length args → Modes bytes (getD table 64 0 / 256 + i) ms
         → m + n < 4294967295 → Holds m s a → Holds (m + n) (visited s (chosen test ms (drop i args))) (argsAt bytes table store base args mode n i a)
-    unfolding argsAt pick
+    unfolding argsAt argAt pick
     args-rep zero i m [] s a e l o hm r = rw (visited-none s) (more-rep m (m + 0) s a (omega arith) r)
     args-rep zero i m (k ∷ ms) s a e l o hm r = absurd (omega arith)
     args-rep (suc n) i m [] s a e l o hm r = absurd (omega arith)

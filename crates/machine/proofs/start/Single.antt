@@ -1,4 +1,5 @@
--- Where no reachable cell is named twice, no cell is held back: each is named by one place, and that is met before. Assumes nothing.
+-- The second walk of the start queues cells of the first alone; and all of them where none is named twice, since each is then named by one
+-- place, and that is met before. Assumes nothing.
 use Prim.Native.Nat.{ℕ, _+_, _≤_, _<_}
 use mathlib.Core.Path.{_≡_}
 use mathlib.Core.Logic.{⊎-elim}
@@ -11,6 +12,7 @@ use Rattle.meaning.specs.Walk.{count, Walk}
 use Rattle.meaning.specs.Start.{In, inside, named, kids, Reached, from, through, all-walk, free-walk}
 use Rattle.theory.proofs.Reached.{count-append}
 use Rattle.theory.proofs.StartCounting.{le?, total-ge, length-le}
+use Rattle.theory.proofs.StartGraph.{Found, root, next}
 use Rattle.theory.proofs.StartWords.{count-fine}
 use Rattle.theory.proofs.StartCells.{all-done, free-done, cells-in, cells-out}
 
@@ -29,6 +31,19 @@ module _ (cs : List Constructor) (store : Store) (owned lent : List ℕ) (fits :
 
   abbrev roots : List ℕ
   roots = named cs store owned ++ named cs store lent
+
+  found-in : {x : ℕ} → Found (kids cs store) roots x → In x (all .queue)
+  found-in (root x p) =
+      all-done cs store owned lent trees mixed fits .kept .ins x (omega arith) (omega (arith, all-done cs store owned lent trees mixed fits .all x))
+  found-in (next d x f p) =
+      let k = total-ge (λ y. count x (kids cs store y)) d (all .queue) (found-in f) in
+      all-done cs store owned lent trees mixed fits .kept .ins x (omega arith) (omega (arith, k, all-done cs store owned lent trees mixed fits .all x))
+
+  -- the second walk queues no other cells than the first
+  pub free-in : (x : ℕ) → In x (free .queue) → In x (all .queue)
+  free-in x i =
+      let o = free-done cs store owned lent trees mixed fits .kept .outs x i in
+      found-in (free-done cs store owned lent trees mixed fits .sound x (omega (arith, o .0, o .1)))
 
   module _ (single : (x : ℕ) → In x (all .queue) → count x (all .seen) ≤ 1) where
     -- a reachable cell that is met in the second walk is queued there

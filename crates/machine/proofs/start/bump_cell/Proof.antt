@@ -16,7 +16,7 @@ same-length c = search needs
 
 returns : tie.Need-returns
 unfolding bump pick
-returns c = (simp (eq-eqb _ _ (c .before .before .before .before .if1 .taken)) (c .before .before .bump-to .ensures .0), c .before .before .bump-to .ensures .1)
+returns c = (simp (eq-eqb _ _ (c .before .before .before .before .if1 .taken)) (c .before .before .bump-to .ensures .0), c .before .before .bump-to .ensures .1, c .before .before .bump-to .ensures .2)
 
 mul-goal : tie.Need-mul-goal
 mul-goal c = search needs
@@ -32,7 +32,7 @@ same-length-2 c = search needs
 
 returns-2 : tie.Need-returns-2
 unfolding bump pick
-returns-2 c = (simp (ne-eqb _ _ (c .before .before .before .before .before .if1 .left)) (c .before .before .bump-to2 .ensures .0), c .before .before .bump-to2 .ensures .1)
+returns-2 c = (simp (ne-eqb _ _ (c .before .before .before .before .before .if1 .left)) (c .before .before .bump-to2 .ensures .0), c .before .before .bump-to2 .ensures .1, c .before .before .bump-to2 .ensures .2)
 
 pub bump-cell-spec : {M : Type 1} → statement M
 bump-cell-spec =

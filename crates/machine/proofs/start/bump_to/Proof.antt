@@ -4,12 +4,14 @@ use Rattle.machine.proofs.start.bump_to.Tie as tie
 use Rattle.machine.proofs.start.bump_to.Reads as reads
 use Rattle.machine.proofs.start.bump_to.Lts as lts
 use Rattle.std.proofs.num.wrapping_add_u32.Reads as wrapping-add-u32-reads
+use Prim.Native.Nat.{_+_}
 use mathlib.Core.Path.{sym, _∙_}
 use native.Mathlib.Omega.{arith}
 use borrow.Author.Tests.{le-leb, lt-leb, eq-eqb, ne-eqb}
 use lib.ListN.{length-set}
 use Rattle.meaning.specs.Choice.{pick}
 use Rattle.machine.specs.StartArea.{counted, bumpTo}
+use Rattle.machine.proofs.start.Cleared.{wiped-set}
 
 add-wrapping-add-u32 : tie.Need-add-wrapping-add-u32
 add-wrapping-add-u32 c = search needs
@@ -37,7 +39,7 @@ same-length c = search needs
 
 returns : tie.Need-returns
 unfolding bumpTo counted pick
-returns c = (simp (c .before .before .wrapping-add-u32 .ensures, eq-eqb _ _ (sym (c .before .before .wrapping-add-u32 .ensures) ∙ c .before .if1 .taken), le-leb _ _ (c .if2 .taken)), omega arith)
+returns c = (simp (c .before .before .wrapping-add-u32 .ensures, eq-eqb _ _ (sym (c .before .before .wrapping-add-u32 .ensures) ∙ c .before .if1 .taken), le-leb _ _ (c .if2 .taken)), omega arith, wiped-set (c .before .before .before .before .before .args .work .now) (c .before .before .before .before .before .args .base + c .before .before .before .before .before .args .c) _ (omega arith))
 
 cast-work : tie.Need-cast-work
 cast-work c = search needs
@@ -62,14 +64,14 @@ same-length-2 c = search needs
 
 returns-2 : tie.Need-returns-2
 unfolding bumpTo counted pick
-returns-2 c = (simp (c .before .before .wrapping-add-u32 .ensures, eq-eqb _ _ (sym (c .before .before .wrapping-add-u32 .ensures) ∙ c .before .if1 .taken), lt-leb _ _ (c .if2 .left)), omega arith)
+returns-2 c = (simp (c .before .before .wrapping-add-u32 .ensures, eq-eqb _ _ (sym (c .before .before .wrapping-add-u32 .ensures) ∙ c .before .if1 .taken), lt-leb _ _ (c .if2 .left)), omega arith, wiped-set _ (c .before .before .before .before .before .args .base + 1024 + c .before .before .before .before .before .args .tail) _ (omega arith) ∙ wiped-set (c .before .before .before .before .before .args .work .now) (c .before .before .before .before .before .args .base + c .before .before .before .before .before .args .c) _ (omega arith))
 
 same-length-3 : tie.Need-same-length-3
 same-length-3 c = search needs
 
 returns-3 : tie.Need-returns-3
 unfolding bumpTo counted pick
-returns-3 c = (simp (c .before .wrapping-add-u32 .ensures, ne-eqb _ _ (λ e. c .if1 .left (c .before .wrapping-add-u32 .ensures ∙ e))), omega arith)
+returns-3 c = (simp (c .before .wrapping-add-u32 .ensures, ne-eqb _ _ (λ e. c .if1 .left (c .before .wrapping-add-u32 .ensures ∙ e))), omega arith, wiped-set (c .before .before .before .before .args .work .now) (c .before .before .before .before .args .base + c .before .before .before .before .args .c) _ (omega arith))
 
 pub bump-to-spec : {M : Type 1} → statement M
 bump-to-spec =

@@ -3,96 +3,101 @@ use Rattle.machine.proofs.start.start_answer.Statement.{statement}
 use Rattle.machine.proofs.start.start_answer.Tie as tie
 use Rattle.machine.proofs.start.start_answer.Reads as reads
 use Rattle.machine.proofs.start.start_answer.Lts as lts
-use Rattle.machine.proofs.start.args_fine.Reads as args-fine-reads
-use Rattle.machine.proofs.start.cells_fine.Reads as cells-fine-reads
+use Rattle.machine.proofs.start.numbers_fine.Reads as numbers-fine-reads
 use Rattle.machine.proofs.start.used_once.Reads as used-once-reads
 use Rattle.machine.proofs.start.walk_free.Reads as walk-free-reads
 use Rattle.machine.proofs.start.walk_lent.Reads as walk-lent-reads
 use Rattle.machine.proofs.start.walk_owned.Reads as walk-owned-reads
-use mathlib.Core.Path.{sym, _∙_}
+use mathlib.Core.Path.{refl, sym, _∙_}
+use native.Mathlib.Omega.{arith}
 use borrow.Author.Tests.{lt-ltb, le-ltb, not-true, not-false}
 use Rattle.machine.specs.StartArea.{area, answerAt}
-use Rattle.machine.proofs.start.Joined.{by-args, by-cells, by-owned, by-all, by-held, by-none, untouched, walked, freed}
+use Rattle.machine.proofs.start.Joined.{by-numbers, by-owned, by-lent, by-shared, by-single, by-held, by-none, early, half, walked, freed, never}
 
-args-fine-requires : tie.Need-args-fine-requires
-args-fine-requires c κs = search needs
+numbers-fine-requires : tie.Need-numbers-fine-requires
+numbers-fine-requires c κs = search needs
 
 returns : tie.Need-returns
 unfolding answerAt
-returns c = untouched (c .before .before .before .before .before .before .args .file .now) (c .before .before .before .before .before .before .args .decl .now) (c .before .before .before .before .before .before .args .args .now) (c .before .before .before .before .before .before .args .store .now) (c .before .before .before .before .before .before .args .work .now) (c .before .before .before .before .before .before .pre) 22 (λ o a f. by-args _ _ _ _ _ (sym (c .before .args-fine .ensures) ∙ not-true _ (c .if1 .taken)))
+returns c = (early (c .before .before .before .before .before .before .args .file .now) (c .before .before .before .before .before .before .args .decl .now) (c .before .before .before .before .before .before .args .args .now) (c .before .before .before .before .before .before .args .store .now) (c .before .before .before .before .before .before .args .work .now) (c .before .before .before .before .before .before .pre) 22 (λ o a f. by-numbers _ _ _ _ _ _ (sym (c .before .numbers-fine .ensures) ∙ not-true _ (c .if1 .taken))), refl)
 
 walk-owned-requires : tie.Need-walk-owned-requires
 walk-owned-requires c κs = search needs
-
-walk-lent-requires : tie.Need-walk-lent-requires
-walk-lent-requires c κs = search needs
-
-cells-fine-requires : tie.Need-cells-fine-requires
-cells-fine-requires c κs = search needs
 
 same-length : tie.Need-same-length
 same-length c = search needs
 
 returns-2 : tie.Need-returns-2
 unfolding answerAt
-returns-2 c = walked (c .before .before .before .before .before .before .before .before .before .before .before .before .before .before .before .before .before .args .file .now) (c .before .before .before .before .before .before .before .before .before .before .before .before .before .before .before .before .before .args .decl .now) (c .before .before .before .before .before .before .before .before .before .before .before .before .before .before .before .before .before .args .args .now) (c .before .before .before .before .before .before .before .before .before .before .before .before .before .before .before .before .before .args .store .now) (c .before .before .before .before .before .before .before .before .before .before .before .before .before .before .before .before .before .args .work .now) (c .before .before .before .before .before .before .before .before .before .before .before .before .before .before .before .before .before .pre) 22 (area _ _) (area _ _) (c .before .before .before .before .before .before .before .before .before .walk-owned .ensures .0) (c .before .before .before .before .before .walk-lent .ensures .0) (λ f. by-cells _ _ _ _ _ (sym (c .before .before .before .before .before .before .before .before .before .before .before .before .args-fine .ensures) ∙ not-false _ (c .before .before .before .before .before .before .before .before .before .before .before .if1 .left)) (sym (c .before .cells-fine .ensures) ∙ not-true _ (c .if2 .taken)))
+returns-2 c = (early (c .before .before .before .before .before .before .before .before .before .before .before .args .file .now) (c .before .before .before .before .before .before .before .before .before .before .before .args .decl .now) (c .before .before .before .before .before .before .before .before .before .before .before .args .args .now) (c .before .before .before .before .before .before .before .before .before .before .before .args .store .now) (c .before .before .before .before .before .before .before .before .before .before .before .args .work .now) (c .before .before .before .before .before .before .before .before .before .before .before .pre) 22 (λ o a f. by-owned _ _ _ _ _ _ (sym (c .before .before .before .before .before .before .numbers-fine .ensures) ∙ not-false _ (c .before .before .before .before .before .if1 .left)) (c .before .before .before .walk-owned .ensures .out (c .if2 .taken))), c .before .before .before .walk-owned .ensures .same)
 
-used-once-requires : tie.Need-used-once-requires
-used-once-requires c κs = search needs
+walk-lent-requires : tie.Need-walk-lent-requires
+walk-lent-requires c κs = omega (arith, c .before .before .before .before .walk-owned .ensures .on (c .before .if2 .left) .2, c .before .before .before .before .walk-owned .kept .1 .1 .1 .1 .0)
 
 same-length-2 : tie.Need-same-length-2
 same-length-2 c = search needs
 
 returns-3 : tie.Need-returns-3
 unfolding answerAt
-returns-3 c = walked (c .before .before .before .before .before .before .before .before .before .before .before .before .before .before .before .before .before .before .before .before .args .file .now) (c .before .before .before .before .before .before .before .before .before .before .before .before .before .before .before .before .before .before .before .before .args .decl .now) (c .before .before .before .before .before .before .before .before .before .before .before .before .before .before .before .before .before .before .before .before .args .args .now) (c .before .before .before .before .before .before .before .before .before .before .before .before .before .before .before .before .before .before .before .before .args .store .now) (c .before .before .before .before .before .before .before .before .before .before .before .before .before .before .before .before .before .before .before .before .args .work .now) (c .before .before .before .before .before .before .before .before .before .before .before .before .before .before .before .before .before .before .before .before .pre) 23 (area _ _) (area _ _) (c .before .before .before .before .before .before .before .before .before .before .before .before .walk-owned .ensures .0) (c .before .before .before .before .before .before .before .before .walk-lent .ensures .0) (λ f. by-owned _ _ _ _ _ (sym (c .before .before .before .before .before .before .before .before .before .before .before .before .before .before .before .args-fine .ensures) ∙ not-false _ (c .before .before .before .before .before .before .before .before .before .before .before .before .before .before .if1 .left)) (sym (c .before .before .before .before .cells-fine .ensures) ∙ not-false _ (c .before .before .before .if2 .left)) (sym (c .before .used-once .ensures) ∙ not-true _ (c .if3 .taken)))
+returns-3 c = (half (c .before .before .before .before .before .before .before .before .before .before .before .before .before .before .before .before .args .file .now) (c .before .before .before .before .before .before .before .before .before .before .before .before .before .before .before .before .args .decl .now) (c .before .before .before .before .before .before .before .before .before .before .before .before .before .before .before .before .args .args .now) (c .before .before .before .before .before .before .before .before .before .before .before .before .before .before .before .before .args .store .now) (c .before .before .before .before .before .before .before .before .before .before .before .before .before .before .before .before .args .work .now) (c .before .before .before .before .before .before .before .before .before .before .before .before .before .before .before .before .pre) 22 (area _ _) (c .before .before .before .before .before .before .before .before .walk-owned .ensures .on (c .before .before .before .before .before .if2 .left) .1) (λ a f. by-lent _ _ _ _ _ _ (sym (c .before .before .before .before .before .before .before .before .before .before .before .numbers-fine .ensures) ∙ not-false _ (c .before .before .before .before .before .before .before .before .before .before .if1 .left)) (c .before .before .before .before .before .before .before .before .walk-owned .ensures .on (c .before .before .before .before .before .if2 .left) .0) (c .before .before .before .walk-lent .ensures .out (c .if3 .taken))), c .before .before .before .walk-lent .ensures .same ∙ c .before .before .before .before .before .before .before .before .walk-owned .ensures .same)
 
-used-once-requires-2 : tie.Need-used-once-requires-2
-used-once-requires-2 c κs = search needs
+used-once-requires : tie.Need-used-once-requires
+used-once-requires c κs = omega (arith, c .before .before .before .before .before .before .before .before .before .before .before .before .before .before .before .before .before .pre .room, c .before .before .before .before .before .before .before .before .before .walk-owned .ensures .on (c .before .before .before .before .before .before .if2 .left) .2, c .before .before .before .before .before .before .before .before .before .walk-owned .kept .1 .1 .1 .1 .0, c .before .before .before .before .walk-lent .kept .1 .1 .1 .1 .0)
 
 same-length-3 : tie.Need-same-length-3
 same-length-3 c = search needs
 
 returns-4 : tie.Need-returns-4
 unfolding answerAt
-returns-4 c = walked (c .before .before .before .before .before .before .before .before .before .before .before .before .before .before .before .before .before .before .before .before .before .before .before .args .file .now) (c .before .before .before .before .before .before .before .before .before .before .before .before .before .before .before .before .before .before .before .before .before .before .before .args .decl .now) (c .before .before .before .before .before .before .before .before .before .before .before .before .before .before .before .before .before .before .before .before .before .before .before .args .args .now) (c .before .before .before .before .before .before .before .before .before .before .before .before .before .before .before .before .before .before .before .before .before .before .before .args .store .now) (c .before .before .before .before .before .before .before .before .before .before .before .before .before .before .before .before .before .before .before .before .before .before .before .args .work .now) (c .before .before .before .before .before .before .before .before .before .before .before .before .before .before .before .before .before .before .before .before .before .before .before .pre) 0 (area _ _) (area _ _) (c .before .before .before .before .before .before .before .before .before .before .before .before .before .before .before .walk-owned .ensures .0) (c .before .before .before .before .before .before .before .before .before .before .before .walk-lent .ensures .0) (λ f. by-all _ _ _ _ _ (sym (c .before .before .before .before .before .before .before .before .before .before .before .before .before .before .before .before .before .before .args-fine .ensures) ∙ not-false _ (c .before .before .before .before .before .before .before .before .before .before .before .before .before .before .before .before .before .if1 .left)) (sym (c .before .before .before .before .before .before .before .cells-fine .ensures) ∙ not-false _ (c .before .before .before .before .before .before .if2 .left)) (sym (c .before .before .before .before .used-once .ensures) ∙ not-false _ (c .before .before .before .if3 .left)) (sym (c .before .used-once2 .ensures) ∙ c .if4 .taken))
+returns-4 c = (walked (c .before .before .before .before .before .before .before .before .before .before .before .before .before .before .before .before .before .before .before .args .file .now) (c .before .before .before .before .before .before .before .before .before .before .before .before .before .before .before .before .before .before .before .args .decl .now) (c .before .before .before .before .before .before .before .before .before .before .before .before .before .before .before .before .before .before .before .args .args .now) (c .before .before .before .before .before .before .before .before .before .before .before .before .before .before .before .before .before .before .before .args .store .now) (c .before .before .before .before .before .before .before .before .before .before .before .before .before .before .before .before .before .before .before .args .work .now) (c .before .before .before .before .before .before .before .before .before .before .before .before .before .before .before .before .before .before .before .pre) 23 (area _ _) (area _ _) (c .before .before .before .before .before .before .before .before .before .before .before .walk-owned .ensures .on (c .before .before .before .before .before .before .before .before .if2 .left) .1) (c .before .before .before .before .before .before .walk-lent .ensures .on (c .before .before .before .if3 .left) .1) (λ f. by-shared _ _ _ _ _ _ (sym (c .before .before .before .before .before .before .before .before .before .before .before .before .before .before .numbers-fine .ensures) ∙ not-false _ (c .before .before .before .before .before .before .before .before .before .before .before .before .before .if1 .left)) (c .before .before .before .before .before .before .before .before .before .before .before .walk-owned .ensures .on (c .before .before .before .before .before .before .before .before .if2 .left) .0) (c .before .before .before .before .before .before .walk-lent .ensures .on (c .before .before .before .if3 .left) .0) (sym (c .before .used-once .ensures) ∙ not-true _ (c .if4 .taken))), c .before .before .before .before .before .before .walk-lent .ensures .same ∙ c .before .before .before .before .before .before .before .before .before .before .before .walk-owned .ensures .same)
 
-walk-free-requires : tie.Need-walk-free-requires
-walk-free-requires c κs = search needs
+used-once-requires-2 : tie.Need-used-once-requires-2
+used-once-requires-2 c κs = omega (arith, c .before .before .before .before .before .before .before .before .before .before .before .before .before .before .before .before .before .before .before .before .pre .room, c .before .before .before .before .before .before .before .walk-lent .ensures .on (c .before .before .before .before .if3 .left) .2, c .before .before .before .before .before .before .before .before .before .before .before .before .walk-owned .kept .1 .1 .1 .1 .0, c .before .before .before .before .before .before .before .walk-lent .kept .1 .1 .1 .1 .0)
 
 same-length-4 : tie.Need-same-length-4
 same-length-4 c = search needs
 
 returns-5 : tie.Need-returns-5
 unfolding answerAt
-returns-5 c = freed (c .before .before .before .before .before .before .before .before .before .before .before .before .before .before .before .before .before .before .before .before .before .before .before .before .before .before .before .before .args .file .now) (c .before .before .before .before .before .before .before .before .before .before .before .before .before .before .before .before .before .before .before .before .before .before .before .before .before .before .before .before .args .decl .now) (c .before .before .before .before .before .before .before .before .before .before .before .before .before .before .before .before .before .before .before .before .before .before .before .before .before .before .before .before .args .args .now) (c .before .before .before .before .before .before .before .before .before .before .before .before .before .before .before .before .before .before .before .before .before .before .before .before .before .before .before .before .args .store .now) (c .before .before .before .before .before .before .before .before .before .before .before .before .before .before .before .before .before .before .before .before .before .before .before .before .before .before .before .before .args .work .now) (c .before .before .before .before .before .before .before .before .before .before .before .before .before .before .before .before .before .before .before .before .before .before .before .before .before .before .before .before .pre) 24 (area _ _) (area _ _) (area _ _) (c .before .before .before .before .before .before .before .before .before .before .before .before .before .before .before .before .before .before .before .before .walk-owned .ensures .0) (c .before .before .before .before .before .before .before .before .before .before .before .before .before .before .before .before .walk-lent .ensures .0) (c .before .before .before .walk-free .ensures .0) (by-held _ _ _ _ _ (sym (c .before .before .before .before .before .before .before .before .before .before .before .before .before .before .before .before .before .before .before .before .before .before .before .args-fine .ensures) ∙ not-false _ (c .before .before .before .before .before .before .before .before .before .before .before .before .before .before .before .before .before .before .before .before .before .before .if1 .left)) (sym (c .before .before .before .before .before .before .before .before .before .before .before .before .cells-fine .ensures) ∙ not-false _ (c .before .before .before .before .before .before .before .before .before .before .before .if2 .left)) (sym (c .before .before .before .before .before .before .before .before .before .used-once .ensures) ∙ not-false _ (c .before .before .before .before .before .before .before .before .if3 .left)) (sym (c .before .before .before .before .before .before .used-once2 .ensures) ∙ c .before .before .before .before .before .if4 .left) (lt-ltb _ _ (c .if5 .taken)))
+returns-5 c = (walked (c .before .before .before .before .before .before .before .before .before .before .before .before .before .before .before .before .before .before .before .before .before .before .args .file .now) (c .before .before .before .before .before .before .before .before .before .before .before .before .before .before .before .before .before .before .before .before .before .before .args .decl .now) (c .before .before .before .before .before .before .before .before .before .before .before .before .before .before .before .before .before .before .before .before .before .before .args .args .now) (c .before .before .before .before .before .before .before .before .before .before .before .before .before .before .before .before .before .before .before .before .before .before .args .store .now) (c .before .before .before .before .before .before .before .before .before .before .before .before .before .before .before .before .before .before .before .before .before .before .args .work .now) (c .before .before .before .before .before .before .before .before .before .before .before .before .before .before .before .before .before .before .before .before .before .before .pre) 0 (area _ _) (area _ _) (c .before .before .before .before .before .before .before .before .before .before .before .before .before .before .walk-owned .ensures .on (c .before .before .before .before .before .before .before .before .before .before .before .if2 .left) .1) (c .before .before .before .before .before .before .before .before .before .walk-lent .ensures .on (c .before .before .before .before .before .before .if3 .left) .1) (λ f. by-single _ _ _ _ _ _ (sym (c .before .before .before .before .before .before .before .before .before .before .before .before .before .before .before .before .before .numbers-fine .ensures) ∙ not-false _ (c .before .before .before .before .before .before .before .before .before .before .before .before .before .before .before .before .if1 .left)) (c .before .before .before .before .before .before .before .before .before .before .before .before .before .before .walk-owned .ensures .on (c .before .before .before .before .before .before .before .before .before .before .before .if2 .left) .0) (c .before .before .before .before .before .before .before .before .before .walk-lent .ensures .on (c .before .before .before .before .before .before .if3 .left) .0) (sym (c .before .before .before .before .used-once .ensures) ∙ not-false _ (c .before .before .before .if4 .left)) (sym (c .before .used-once2 .ensures) ∙ c .if5 .taken)), c .before .before .before .before .before .before .before .before .before .walk-lent .ensures .same ∙ c .before .before .before .before .before .before .before .before .before .before .before .before .before .before .walk-owned .ensures .same)
+
+walk-free-requires : tie.Need-walk-free-requires
+walk-free-requires c κs = search needs
 
 same-length-5 : tie.Need-same-length-5
 same-length-5 c = search needs
 
 returns-6 : tie.Need-returns-6
 unfolding answerAt
-returns-6 c = freed (c .before .before .before .before .before .before .before .before .before .before .before .before .before .before .before .before .before .before .before .before .before .before .before .before .before .before .before .before .args .file .now) (c .before .before .before .before .before .before .before .before .before .before .before .before .before .before .before .before .before .before .before .before .before .before .before .before .before .before .before .before .args .decl .now) (c .before .before .before .before .before .before .before .before .before .before .before .before .before .before .before .before .before .before .before .before .before .before .before .before .before .before .before .before .args .args .now) (c .before .before .before .before .before .before .before .before .before .before .before .before .before .before .before .before .before .before .before .before .before .before .before .before .before .before .before .before .args .store .now) (c .before .before .before .before .before .before .before .before .before .before .before .before .before .before .before .before .before .before .before .before .before .before .before .before .before .before .before .before .args .work .now) (c .before .before .before .before .before .before .before .before .before .before .before .before .before .before .before .before .before .before .before .before .before .before .before .before .before .before .before .before .pre) 0 (area _ _) (area _ _) (area _ _) (c .before .before .before .before .before .before .before .before .before .before .before .before .before .before .before .before .before .before .before .before .walk-owned .ensures .0) (c .before .before .before .before .before .before .before .before .before .before .before .before .before .before .before .before .walk-lent .ensures .0) (c .before .before .before .walk-free .ensures .0) (by-none _ _ _ _ _ (sym (c .before .before .before .before .before .before .before .before .before .before .before .before .before .before .before .before .before .before .before .before .before .before .before .args-fine .ensures) ∙ not-false _ (c .before .before .before .before .before .before .before .before .before .before .before .before .before .before .before .before .before .before .before .before .before .before .if1 .left)) (sym (c .before .before .before .before .before .before .before .before .before .before .before .before .cells-fine .ensures) ∙ not-false _ (c .before .before .before .before .before .before .before .before .before .before .before .if2 .left)) (sym (c .before .before .before .before .before .before .before .before .before .used-once .ensures) ∙ not-false _ (c .before .before .before .before .before .before .before .before .if3 .left)) (sym (c .before .before .before .before .before .before .used-once2 .ensures) ∙ c .before .before .before .before .before .if4 .left) (le-ltb _ _ (c .if5 .left)))
+returns-6 c = (freed (c .before .before .before .before .before .before .before .before .before .before .before .before .before .before .before .before .before .before .before .before .before .before .before .before .before .before .before .args .file .now) (c .before .before .before .before .before .before .before .before .before .before .before .before .before .before .before .before .before .before .before .before .before .before .before .before .before .before .before .args .decl .now) (c .before .before .before .before .before .before .before .before .before .before .before .before .before .before .before .before .before .before .before .before .before .before .before .before .before .before .before .args .args .now) (c .before .before .before .before .before .before .before .before .before .before .before .before .before .before .before .before .before .before .before .before .before .before .before .before .before .before .before .args .store .now) (c .before .before .before .before .before .before .before .before .before .before .before .before .before .before .before .before .before .before .before .before .before .before .before .before .before .before .before .args .work .now) (c .before .before .before .before .before .before .before .before .before .before .before .before .before .before .before .before .before .before .before .before .before .before .before .before .before .before .before .pre) 24 (area _ _) (area _ _) (area _ _) (c .before .before .before .before .before .before .before .before .before .before .before .before .before .before .before .before .before .before .before .walk-owned .ensures .on (c .before .before .before .before .before .before .before .before .before .before .before .before .before .before .before .before .if2 .left) .1) (c .before .before .before .before .before .before .before .before .before .before .before .before .before .before .walk-lent .ensures .on (c .before .before .before .before .before .before .before .before .before .before .before .if3 .left) .1) (c .before .before .before .walk-free .ensures .on (λ e. omega (arith, c .if6 .taken, c .before .before .before .before .before .before .before .before .before .before .before .before .before .before .walk-lent .ensures .on (c .before .before .before .before .before .before .before .before .before .before .before .if3 .left) .2)) .1) (by-held _ _ _ _ _ _ (sym (c .before .before .before .before .before .before .before .before .before .before .before .before .before .before .before .before .before .before .before .before .before .before .numbers-fine .ensures) ∙ not-false _ (c .before .before .before .before .before .before .before .before .before .before .before .before .before .before .before .before .before .before .before .before .before .if1 .left)) (c .before .before .before .before .before .before .before .before .before .before .before .before .before .before .before .before .before .before .before .walk-owned .ensures .on (c .before .before .before .before .before .before .before .before .before .before .before .before .before .before .before .before .if2 .left) .0) (c .before .before .before .before .before .before .before .before .before .before .before .before .before .before .walk-lent .ensures .on (c .before .before .before .before .before .before .before .before .before .before .before .if3 .left) .0) (sym (c .before .before .before .before .before .before .before .before .before .used-once .ensures) ∙ not-false _ (c .before .before .before .before .before .before .before .before .if4 .left)) (sym (c .before .before .before .before .before .before .used-once2 .ensures) ∙ c .before .before .before .before .before .if5 .left) (lt-ltb _ _ (c .if6 .taken))), c .before .before .before .walk-free .ensures .same ∙ c .before .before .before .before .before .before .before .before .before .before .before .before .before .before .walk-lent .ensures .same ∙ c .before .before .before .before .before .before .before .before .before .before .before .before .before .before .before .before .before .before .before .walk-owned .ensures .same)
+
+same-length-6 : tie.Need-same-length-6
+same-length-6 c = search needs
+
+returns-7 : tie.Need-returns-7
+unfolding answerAt
+returns-7 c = (freed (c .before .before .before .before .before .before .before .before .before .before .before .before .before .before .before .before .before .before .before .before .before .before .before .before .before .before .before .args .file .now) (c .before .before .before .before .before .before .before .before .before .before .before .before .before .before .before .before .before .before .before .before .before .before .before .before .before .before .before .args .decl .now) (c .before .before .before .before .before .before .before .before .before .before .before .before .before .before .before .before .before .before .before .before .before .before .before .before .before .before .before .args .args .now) (c .before .before .before .before .before .before .before .before .before .before .before .before .before .before .before .before .before .before .before .before .before .before .before .before .before .before .before .args .store .now) (c .before .before .before .before .before .before .before .before .before .before .before .before .before .before .before .before .before .before .before .before .before .before .before .before .before .before .before .args .work .now) (c .before .before .before .before .before .before .before .before .before .before .before .before .before .before .before .before .before .before .before .before .before .before .before .before .before .before .before .pre) 0 (area _ _) (area _ _) (area _ _) (c .before .before .before .before .before .before .before .before .before .before .before .before .before .before .before .before .before .before .before .walk-owned .ensures .on (c .before .before .before .before .before .before .before .before .before .before .before .before .before .before .before .before .if2 .left) .1) (c .before .before .before .before .before .before .before .before .before .before .before .before .before .before .walk-lent .ensures .on (c .before .before .before .before .before .before .before .before .before .before .before .if3 .left) .1) (c .before .before .before .walk-free .ensures .on (never (c .before .before .before .before .before .before .before .before .before .before .before .before .before .before .before .before .before .before .before .before .before .before .before .before .before .before .before .args .file .now) (c .before .before .before .before .before .before .before .before .before .before .before .before .before .before .before .before .before .before .before .before .before .before .before .before .before .before .before .args .decl .now) (c .before .before .before .before .before .before .before .before .before .before .before .before .before .before .before .before .before .before .before .before .before .before .before .before .before .before .before .args .args .now) (c .before .before .before .before .before .before .before .before .before .before .before .before .before .before .before .before .before .before .before .before .before .before .before .before .before .before .before .args .store .now) (c .before .before .before .before .before .before .before .before .before .before .before .before .before .before .before .before .before .before .before .before .before .before .before .before .before .before .before .args .work .now) (c .before .before .before .before .before .before .before .before .before .before .before .before .before .before .before .before .before .before .before .before .before .before .before .before .before .before .before .pre) (area _ _) (area _ _) _ _ (c .before .before .before .before .before .before .before .before .before .before .before .before .before .before .before .before .before .before .before .walk-owned .ensures .on (c .before .before .before .before .before .before .before .before .before .before .before .before .before .before .before .before .if2 .left) .1) (c .before .before .before .before .before .before .before .before .before .before .before .before .before .before .walk-lent .ensures .on (c .before .before .before .before .before .before .before .before .before .before .before .if3 .left) .1) (c .before .before .before .before .before .before .before .before .before .before .before .before .before .before .before .before .before .before .before .walk-owned .ensures .on (c .before .before .before .before .before .before .before .before .before .before .before .before .before .before .before .before .if2 .left) .0) (c .before .before .before .before .before .before .before .before .before .before .before .before .before .before .walk-lent .ensures .on (c .before .before .before .before .before .before .before .before .before .before .before .if3 .left) .0) (c .before .before .before .walk-free .ensures)) .1) (by-none _ _ _ _ _ _ (sym (c .before .before .before .before .before .before .before .before .before .before .before .before .before .before .before .before .before .before .before .before .before .before .numbers-fine .ensures) ∙ not-false _ (c .before .before .before .before .before .before .before .before .before .before .before .before .before .before .before .before .before .before .before .before .before .if1 .left)) (c .before .before .before .before .before .before .before .before .before .before .before .before .before .before .before .before .before .before .before .walk-owned .ensures .on (c .before .before .before .before .before .before .before .before .before .before .before .before .before .before .before .before .if2 .left) .0) (c .before .before .before .before .before .before .before .before .before .before .before .before .before .before .walk-lent .ensures .on (c .before .before .before .before .before .before .before .before .before .before .before .if3 .left) .0) (sym (c .before .before .before .before .before .before .before .before .before .used-once .ensures) ∙ not-false _ (c .before .before .before .before .before .before .before .before .if4 .left)) (sym (c .before .before .before .before .before .before .used-once2 .ensures) ∙ c .before .before .before .before .before .if5 .left) (le-ltb _ _ (c .if6 .left))), c .before .before .before .walk-free .ensures .same ∙ c .before .before .before .before .before .before .before .before .before .before .before .before .before .before .walk-lent .ensures .same ∙ c .before .before .before .before .before .before .before .before .before .before .before .before .before .before .before .before .before .before .before .walk-owned .ensures .same)
 
 pub start-answer-spec : {M : Type 1} → statement M
 start-answer-spec =
     tie.close
     (tie.spec
-    args-fine-requires
+    numbers-fine-requires
     returns
     walk-owned-requires
-    walk-lent-requires
-    cells-fine-requires
     same-length
     returns-2
-    used-once-requires
+    walk-lent-requires
     same-length-2
     returns-3
-    used-once-requires-2
+    used-once-requires
     same-length-3
     returns-4
-    walk-free-requires
+    used-once-requires-2
     same-length-4
     returns-5
+    walk-free-requires
     same-length-5
-    returns-6)
+    returns-6
+    same-length-6
+    returns-7)

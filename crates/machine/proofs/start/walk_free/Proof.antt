@@ -6,9 +6,14 @@ use Rattle.machine.proofs.start.walk_free.Lts as lts
 use Rattle.machine.proofs.start.clear.Reads as clear-reads
 use Rattle.machine.proofs.start.drain_queue.Reads as drain-queue-reads
 use Rattle.machine.proofs.start.name_args.Reads as name-args-reads
+use Prim.Native.Nat.{_/_}
 use mathlib.Core.Path.{ap, _∙_}
+use native.Mathlib.Omega.{arith}
 use lib.ListN.{length}
-use Rattle.machine.specs.StartArea.{area, drainAt, argsAt, freeArea}
+use Rattle.meaning.specs.Answers.{wiped}
+use Rattle.machine.specs.StartArea.{area, argsAt}
+use Rattle.machine.proofs.start.Cleared.{wiped-cleared}
+use Rattle.machine.proofs.start.Goes.{went-bad, went-after, free-stops, free-halts, free-goes}
 
 clear-requires : tie.Need-clear-requires
 clear-requires c κs = search needs
@@ -16,18 +21,31 @@ clear-requires c κs = search needs
 name-args-requires : tie.Need-name-args-requires
 name-args-requires c κs = search needs
 
-name-args-requires-2 : tie.Need-name-args-requires-2
-name-args-requires-2 c κs = search needs
-
-drain-queue-requires : tie.Need-drain-queue-requires
-drain-queue-requires c κs = search needs
-
 same-length : tie.Need-same-length
 same-length c = search needs
 
 returns : tie.Need-returns
-unfolding freeArea
-returns c = (c .before .before .drain-queue .ensures .0 ∙ ap (drainAt (c .before .before .before .before .before .before .before .before .before .before .before .before .before .before .before .before .before .before .before .before .args .file .now) (c .before .before .before .before .before .before .before .before .before .before .before .before .before .before .before .before .before .before .before .before .args .decl .now) (c .before .before .before .before .before .before .before .before .before .before .before .before .before .before .before .before .before .before .before .before .args .store .now) 2048 1024 0) (c .before .before .before .before .before .before .name-args2 .ensures .0 ∙ ap (argsAt (c .before .before .before .before .before .before .before .before .before .before .before .before .before .before .before .before .before .before .before .before .args .file .now) (c .before .before .before .before .before .before .before .before .before .before .before .before .before .before .before .before .before .before .before .before .args .decl .now) (c .before .before .before .before .before .before .before .before .before .before .before .before .before .before .before .before .before .before .before .before .args .store .now) 2048 (c .before .before .before .before .before .before .before .before .before .before .before .before .before .before .before .before .before .before .before .before .args .args .now) 1 (length (c .before .before .before .before .before .before .before .before .before .before .before .before .before .before .before .before .before .before .before .before .args .args .now)) 0) (c .before .before .before .before .before .before .before .before .before .before .name-args .ensures .0 ∙ ap (λ w. argsAt (c .before .before .before .before .before .before .before .before .before .before .before .before .before .before .before .before .before .before .before .before .args .file .now) (c .before .before .before .before .before .before .before .before .before .before .before .before .before .before .before .before .before .before .before .before .args .decl .now) (c .before .before .before .before .before .before .before .before .before .before .before .before .before .before .before .before .before .before .before .before .args .store .now) 2048 (c .before .before .before .before .before .before .before .before .before .before .before .before .before .before .before .before .before .before .before .before .args .args .now) 2 (length (c .before .before .before .before .before .before .before .before .before .before .before .before .before .before .before .before .before .before .before .before .args .args .now)) 0 (area w 0)) (c .before .before .before .before .before .before .before .before .before .before .before .before .before .before .clear .ensures))), c .before .before .drain-queue .ensures .1)
+returns c = went-bad _ _ _ _ (c .before .before .before .name-args .ensures .same ∙ ap (wiped 4096) (c .before .before .before .before .before .before .before .clear .ensures) ∙ wiped-cleared 2048 (length (c .before .before .before .before .before .before .before .before .before .before .before .before .before .args .store .now) / 5) (c .before .before .before .before .before .before .before .before .before .before .before .before .before .args .work .now) (omega arith)) (free-stops (c .before .before .before .before .before .before .before .before .before .before .before .before .before .args .file .now) (c .before .before .before .before .before .before .before .before .before .before .before .before .before .args .decl .now) (c .before .before .before .before .before .before .before .before .before .before .before .before .before .args .store .now) (c .before .before .before .before .before .before .before .before .before .before .before .before .before .args .args .now) (c .before .before .before .before .before .before .before .before .before .before .before .before .before .args .work .now) (c .before .before .before .name-args .ensures .out (c .if1 .taken)))
+
+name-args-requires-2 : tie.Need-name-args-requires-2
+name-args-requires-2 c κs = omega (arith, c .before .before .before .before .name-args .ensures .on (c .before .if1 .left) .2, c .before .before .before .before .name-args .kept .1 .1 .1 .1 .0, c .before .before .before .before .before .before .before .before .clear .kept .0)
+
+same-length-2 : tie.Need-same-length-2
+same-length-2 c = search needs
+
+returns-2 : tie.Need-returns-2
+returns-2 c = went-bad _ _ _ _ (c .before .before .before .name-args2 .ensures .same ∙ c .before .before .before .before .before .before .before .before .name-args .ensures .same ∙ ap (wiped 4096) (c .before .before .before .before .before .before .before .before .before .before .before .before .clear .ensures) ∙ wiped-cleared 2048 (length (c .before .before .before .before .before .before .before .before .before .before .before .before .before .before .before .before .before .before .args .store .now) / 5) (c .before .before .before .before .before .before .before .before .before .before .before .before .before .before .before .before .before .before .args .work .now) (omega arith)) (free-halts (c .before .before .before .before .before .before .before .before .before .before .before .before .before .before .before .before .before .before .args .file .now) (c .before .before .before .before .before .before .before .before .before .before .before .before .before .before .before .before .before .before .args .decl .now) (c .before .before .before .before .before .before .before .before .before .before .before .before .before .before .before .before .before .before .args .store .now) (c .before .before .before .before .before .before .before .before .before .before .before .before .before .before .before .before .before .before .args .args .now) (c .before .before .before .before .before .before .before .before .before .before .before .before .before .before .before .before .before .before .args .work .now) (c .before .before .before .before .before .before .before .before .name-args .ensures .on (c .before .before .before .before .before .if1 .left) .0) (c .before .before .before .name-args2 .ensures .out (c .if2 .taken)))
+
+drain-queue-requires : tie.Need-drain-queue-requires
+drain-queue-requires c κs = omega (arith, c .before .before .before .before .before .before .before .before .before .before .before .before .before .before .before .before .before .before .before .pre .0, c .before .before .before .before .before .before .before .before .before .before .before .before .before .before .before .before .before .before .before .pre .1, c .before .before .before .before .name-args2 .ensures .on (c .before .if2 .left) .2, c .before .before .before .before .name-args2 .kept .1 .1 .1 .1 .0, c .before .before .before .before .before .before .before .before .before .name-args .kept .1 .1 .1 .1 .0, c .before .before .before .before .before .before .before .before .before .before .before .before .before .clear .kept .0)
+
+same-length-3 : tie.Need-same-length-3
+same-length-3 c = search needs
+
+returns-3 : tie.Need-returns-3
+returns-3 c =
+    let x = free-goes (c .before .before .before .before .before .before .before .before .before .before .before .before .before .before .before .before .before .before .before .before .before .before .args .file .now) (c .before .before .before .before .before .before .before .before .before .before .before .before .before .before .before .before .before .before .before .before .before .before .args .decl .now) (c .before .before .before .before .before .before .before .before .before .before .before .before .before .before .before .before .before .before .before .before .before .before .args .store .now) (c .before .before .before .before .before .before .before .before .before .before .before .before .before .before .before .before .before .before .before .before .before .before .args .args .now) (c .before .before .before .before .before .before .before .before .before .before .before .before .before .before .before .before .before .before .before .before .before .before .args .work .now) _ (c .before .before .before .before .before .before .before .before .before .before .before .before .name-args .ensures .on (c .before .before .before .before .before .before .before .before .before .if1 .left) .0) (c .before .before .before .before .before .before .before .name-args2 .ensures .on (c .before .before .before .before .if2 .left) .0) (c .before .before .before .before .before .before .before .name-args2 .ensures .on (c .before .before .before .before .if2 .left) .1 ∙ ap (argsAt (c .before .before .before .before .before .before .before .before .before .before .before .before .before .before .before .before .before .before .before .before .before .before .args .file .now) (c .before .before .before .before .before .before .before .before .before .before .before .before .before .before .before .before .before .before .before .before .before .before .args .decl .now) (c .before .before .before .before .before .before .before .before .before .before .before .before .before .before .before .before .before .before .before .before .before .before .args .store .now) 2048 (c .before .before .before .before .before .before .before .before .before .before .before .before .before .before .before .before .before .before .before .before .before .before .args .args .now) 1 (length (c .before .before .before .before .before .before .before .before .before .before .before .before .before .before .before .before .before .before .before .before .before .before .args .args .now)) 0) (c .before .before .before .before .before .before .before .before .before .before .before .before .name-args .ensures .on (c .before .before .before .before .before .before .before .before .before .if1 .left) .1 ∙ ap (λ w. argsAt (c .before .before .before .before .before .before .before .before .before .before .before .before .before .before .before .before .before .before .before .before .before .before .args .file .now) (c .before .before .before .before .before .before .before .before .before .before .before .before .before .before .before .before .before .before .before .before .before .before .args .decl .now) (c .before .before .before .before .before .before .before .before .before .before .before .before .before .before .before .before .before .before .before .before .before .before .args .store .now) 2048 (c .before .before .before .before .before .before .before .before .before .before .before .before .before .before .before .before .before .before .before .before .before .before .args .args .now) 2 (length (c .before .before .before .before .before .before .before .before .before .before .before .before .before .before .before .before .before .before .before .before .before .before .args .args .now)) 0 (area w 0)) (c .before .before .before .before .before .before .before .before .before .before .before .before .before .before .before .before .clear .ensures))) in
+    went-after _ _ _ _ _ _ _ _ (c .before .before .before .before .before .before .before .name-args2 .ensures .same ∙ c .before .before .before .before .before .before .before .before .before .before .before .before .name-args .ensures .same ∙ ap (wiped 4096) (c .before .before .before .before .before .before .before .before .before .before .before .before .before .before .before .before .clear .ensures) ∙ wiped-cleared 2048 (length (c .before .before .before .before .before .before .before .before .before .before .before .before .before .before .before .before .before .before .before .before .before .before .args .store .now) / 5) (c .before .before .before .before .before .before .before .before .before .before .before .before .before .before .before .before .before .before .before .before .before .before .args .work .now) (omega arith)) (x .0) (x .1) (c .before .before .drain-queue .ensures)
 
 pub walk-free-spec : {M : Type 1} → statement M
 walk-free-spec =
@@ -35,7 +53,11 @@ walk-free-spec =
     (tie.spec
     clear-requires
     name-args-requires
-    name-args-requires-2
-    drain-queue-requires
     same-length
-    returns)
+    returns
+    name-args-requires-2
+    same-length-2
+    returns-2
+    drain-queue-requires
+    same-length-3
+    returns-3)
