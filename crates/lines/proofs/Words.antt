@@ -1,14 +1,15 @@
 -- The words of an input, laid over the first of a list one by one, and what a well-formed input says of lengths. Assumes nothing.
-use Prim.Native.Nat.{ℕ, zero, suc, _+_, _*_, _≤_, _<_}
+use Prim.Native.Nat.{ℕ, zero, suc, _+_, _-_, _*_, _≤_, _<_}
+use native.Mathlib.Omega.{arith}
 use native.Mathlib.Numerals.{add-one}
 use mathlib.Core.Bool.{Bool, true, false, _&&_, false≢true}
 use mathlib.Core.Path.{_≡_, refl, sym, ap, _∙_}
 use mathlib.Core.List.{List, [], _∷_, _++_}
-use lib.ListN.{length, getD, set, take, drop, length-append}
+use lib.ListN.{length, getD, set, take, drop, length-append, length-replicate}
 use lib.Seq.{drop-cons, set-at, append-snoc, take-at}
 use lib.Dec.{leb, eqb}
 use borrow.Author.Tests.{leb-true, eqb-true, le-leb}
-use Rattle.meaning.specs.Lines.{word-in, words-in, well-formed, file-length, arguments, cells}
+use Rattle.meaning.specs.Lines.{word-in, words-in, zeros, well-formed, file-length, arguments, cells}
 
 pub length-words : (input : List ℕ) (at count : ℕ) → length (words-in input at count) ≡ count
 unfolding words-in
@@ -29,8 +30,24 @@ next-word input at i old h =
     ∙ sym (append-snoc (words-in input at i) (word-in input (at + 4 * i)) (drop (suc i) old)))
 
 -- the first words are the input's
-pub first-words : (input : List ℕ) (at count : ℕ) (old : List ℕ) → take count (words-in input at count ++ drop count old) ≡ words-in input at count
-first-words input at count old = take-at (words-in input at count) (drop count old) count (length-words input at count)
+first-words : (input new old : List ℕ) (at count : ℕ) → new ≡ words-in input at count ++ drop count old → take count new ≡ words-in input at count
+first-words input new old at count e = ap (take count) e ∙ take-at (words-in input at count) (drop count old) count (length-words input at count)
+
+-- the file stands behind the four counts
+pub file-part : (input : List ℕ) {n m : ℕ} → n ≡ m → take (16 + n - 16) (drop 16 input) ≡ take m (drop 16 input)
+file-part input {n} {m} e = let same : 16 + n - 16 ≡ m = omega arith in ap (λ k. take k (drop 16 input)) same
+
+pub args-part : (input new old : List ℕ) {f f′ a a′ : ℕ} → new ≡ words-in input (16 + f) a ++ drop a old → f ≡ f′ → a ≡ a′ → take a new ≡ words-in input (16 + f′) a′
+args-part input new old {f} {a = a} e p q = first-words input new old (16 + f) a e ∙ rw (p, q)
+
+pub store-part : (input new old : List ℕ) {f f′ a a′ k k′ : ℕ}
+    → new ≡ words-in input (16 + f + 4 * a) (5 * k) ++ drop (5 * k) old → f ≡ f′ → a ≡ a′ → k ≡ k′
+    → take (5 * k) new ≡ words-in input (16 + f′ + 4 * a′) (5 * k′)
+store-part input new old {f} {a = a} {k = k} e p q r = first-words input new old (16 + f + 4 * a) (5 * k) e ∙ rw (p, q, r)
+
+pub length-zeros : (n : ℕ) → length (zeros n) ≡ n
+unfolding zeros
+length-zeros n = length-replicate n 0
 
 -- what the counts of a well-formed input say of its length
 pub record Sized (input : List ℕ) : Type 0 where

@@ -55,19 +55,19 @@ pub(crate) fn verdict_line(v: Verdict, out: &mut [u8]) -> usize
 {
     match v {
         Verdict::Flat(depth, reached) => {
-            let a = put_text(out, 0, b"accepted flat ");
-            let b = put_field(out, a, depth, b' ');
-            put_field(out, b, reached, b'\n')
+            let at = put_text(out, 0, b"accepted flat ");
+            let at = put_field(out, at, depth, b' ');
+            put_field(out, at, reached, b'\n')
         }
         Verdict::Stacked(reached) => {
-            let a = put_text(out, 0, b"accepted stacked ");
-            put_field(out, a, reached, b'\n')
+            let at = put_text(out, 0, b"accepted stacked ");
+            put_field(out, at, reached, b'\n')
         }
         Verdict::Refused(number, place) => {
-            let a = put_text(out, 0, b"refused ");
-            let b = put_field(out, a, number, b' ');
-            let c = put_text(out, b, b"at ");
-            put_field(out, c, place, b'\n')
+            let at = put_text(out, 0, b"refused ");
+            let at = put_field(out, at, number, b' ');
+            let at = put_text(out, at, b"at ");
+            put_field(out, at, place, b'\n')
         }
     }
 }
@@ -91,11 +91,11 @@ pub(crate) fn answer_line(answer: Answer, out: &mut [u8]) -> usize
     ensures { λ r. ⌜ Line (answer-line answer ++ newline) (now (out .entry)) (now (out .exit)) r ⌝ }
 {
     let end = answer.end;
-    let a = put_field(out, 0, number(end), b' ');
-    let b = put_field(out, a, answer.value, b' ');
-    let c = put_field(out, b, answer.steps, b' ');
-    let d = put_field(out, c, answer.place, b' ');
-    put_field(out, d, answer.frames, b'\n')
+    let at = put_field(out, 0, number(end), b' ');
+    let at = put_field(out, at, answer.value, b' ');
+    let at = put_field(out, at, answer.steps, b' ');
+    let at = put_field(out, at, answer.place, b' ');
+    put_field(out, at, answer.frames, b'\n')
 }
 
 // Writes the line of an input that asks for no run, and answers its length.
