@@ -20,3 +20,4 @@ pub mod Cases
 pub mod WrongTurns
 pub mod PlainCases
 pub mod CellCases
+pub mod Lines

@@ -1,0 +1,5 @@
+pub mod Writing
+pub mod Digits
+pub mod Texts
+pub mod Words
+pub mod Requests
