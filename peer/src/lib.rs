@@ -1,6 +1,7 @@
 //! An implementation of document 01 in plain safe Rust that shares nothing with the proved one: the checker, the machine, and slow second formulations of both.
 #![forbid(unsafe_code)]
 
+pub mod agreement;
 mod calls;
 mod check;
 mod declared;
@@ -10,6 +11,7 @@ mod program;
 mod start;
 
 pub mod input;
+pub mod random;
 pub mod slow;
 
 pub use check::check;

@@ -1,0 +1,4 @@
+//! What the comparing and the measuring program share.
+#![deny(unsafe_code)]
+
+pub mod proved;
