@@ -23,7 +23,7 @@ const GREATEST_BUDGET: usize = 2_000;
 /// A random case.
 pub fn case(random: &mut Random) -> Case {
     let (file, shapes) = file(random);
-    let Start { arguments, store } = lent(random, &shapes);
+    let Start { arguments, store, .. } = lent(random, &shapes);
     let mut case = Case { file, arguments, store, work: Vec::new(), budget: 0 };
     case.work = work(random);
     case.budget = budget(random, &case);
@@ -40,7 +40,7 @@ pub fn file(random: &mut Random) -> (Vec<u8>, Shapes) {
         return (file, shapes);
     }
     let (mut file, shapes) = grow::file(random);
-    if random.percent(35) {
+    if random.percent(25) {
         damage(random, &mut file);
     }
     (file, shapes)
@@ -63,7 +63,7 @@ fn lent(random: &mut Random, shapes: &Shapes) -> Start {
     };
     let mut start = start(random, shapes, cells);
     if random.percent(30) {
-        spoil(random, &mut start);
+        spoil(random, shapes, &mut start);
     }
     if random.percent(1) {
         start.store.extend((0..1 + random.below(5)).map(|_| 0));

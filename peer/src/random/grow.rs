@@ -54,7 +54,8 @@ pub fn shapes(random: &mut Random) -> (Shapes, bool) {
 pub fn file(random: &mut Random) -> (Vec<u8>, Shapes) {
     let (shapes, with_known) = shapes(random);
     let own = shapes.functions.len() - if with_known { known::KNOWN.len() } else { 0 };
-    let mut grower = Grower { random, shapes, bytes: Vec::new() };
+    let faults = if random.percent(20) { 8 } else { 0 };
+    let mut grower = Grower { random, shapes, bytes: Vec::new(), faults };
     grower.declare();
     for function in 0..own {
         grower.body(function);
@@ -122,17 +123,25 @@ impl Path {
         self.of(|kind| matches!(kind, Kind::Credit(_))).into_iter().map(|index| (index, size(index))).collect()
     }
 
+    /// Makes a slot used if it is bound and spent.
+    fn spend(&mut self, index: usize, spent: bool) {
+        if let Some(slot) = self.slots.get_mut(index) {
+            slot.used |= spent;
+        }
+    }
+
     /// Binds the next slot.
     fn bind(&mut self, kind: Kind) {
         self.slots.push(Slot::new(kind));
     }
 }
 
-/// What grows a file.
+/// What grows a file; so many times in a hundred it breaks a rule on purpose.
 struct Grower<'a> {
     random: &'a mut Random,
     shapes: Shapes,
     bytes: Vec<u8>,
+    faults: usize,
 }
 
 impl Grower<'_> {
@@ -156,6 +165,16 @@ impl Grower<'_> {
         self.bytes.extend(fields.iter().map(|field| *field as u8));
         path.nodes += 1;
         path.fuel = path.fuel.saturating_sub(1);
+    }
+
+    /// Whether to break a rule here.
+    fn fault(&mut self) -> bool {
+        self.random.percent(self.faults)
+    }
+
+    /// Some slots of a path: those that satisfy a condition, or, to break a rule, any number up to one too many.
+    fn some(&mut self, path: &Path, fitting: Vec<usize>) -> Vec<usize> {
+        if self.fault() { (0..=path.slots.len()).collect() } else { fitting }
     }
 
     /// Grows a term.
@@ -188,7 +207,7 @@ impl Grower<'_> {
 
     /// Grows an AR, if there is a number.
     fn arithmetic(&mut self, path: &mut Path) {
-        let numbers = path.numbers();
+        let numbers = self.some(path, path.numbers());
         let operation = self.random.below(4);
         if let (Some(left), Some(right)) = (self.random.pick(&numbers), self.random.pick(&numbers)) {
             self.record(path, b"AR", &[operation, left, right]);
@@ -213,7 +232,8 @@ impl Grower<'_> {
     /// Grows an MK, if there is a credit, with what it lacks bound before; says whether it did.
     fn make(&mut self, path: &mut Path) -> bool {
         let Some((credit, size)) = self.random.pick(&path.credits()) else { return false };
-        let constructors = self.with_arity(|arity| arity == size);
+        let other_size = self.fault();
+        let constructors = self.with_arity(|arity| arity == size || other_size && arity > 0);
         let Some(constructor) = self.random.pick(&constructors) else { return false };
         let sorts = self.shapes.constructors[constructor].clone();
         if sorts.contains(&Sort::Number) && path.numbers().is_empty() {
@@ -227,13 +247,14 @@ impl Grower<'_> {
                 return false;
             }
         }
-        let (numbers, mut owned) = (path.numbers(), path.owned());
+        let numbers = self.some(path, path.numbers());
+        let mut owned = self.some(path, path.owned());
         self.random.shuffle(&mut owned);
         let mut fields = vec![constructor, credit];
         path.slots[credit].used = true;
         for sort in sorts {
             let slot = if sort == Sort::Number { self.random.pick(&numbers) } else { owned.pop() }.unwrap_or(0);
-            path.slots[slot].used |= sort == Sort::Tree;
+            path.spend(slot, sort == Sort::Tree);
             fields.push(slot);
         }
         self.record(path, b"MK", &fields);
@@ -252,6 +273,7 @@ impl Grower<'_> {
                 Mode::Owned => path.owned(),
             };
             fitting.retain(|slot| !handed.contains(slot) && !(*mode == Mode::Owned && chosen.contains(slot)));
+            let fitting = self.some(path, fitting);
             let slot = self.random.pick(&fitting)?;
             chosen.push(slot);
             if *mode == Mode::Owned {
@@ -267,7 +289,7 @@ impl Grower<'_> {
         let Signature { modes, result } = self.shapes.functions[function].clone();
         let Some(arguments) = self.arguments(path, &modes) else { return };
         for (mode, slot) in modes.iter().zip(&arguments) {
-            path.slots[*slot].used |= *mode == Mode::Owned;
+            path.spend(*slot, *mode == Mode::Owned);
         }
         let mut fields = vec![function];
         fields.extend(arguments);
@@ -278,8 +300,9 @@ impl Grower<'_> {
     /// Grows a TL that leaves nothing over, if some function can be called so; says whether it did.
     fn tail(&mut self, path: &Path) -> bool {
         let mut owned = path.owned();
+        let other_result = self.fault();
         let fits = |signature: &Signature| {
-            signature.result == path.result && signature.modes.iter().filter(|mode| **mode == Mode::Owned).count() == owned.len()
+            (signature.result == path.result || other_result) && signature.modes.iter().filter(|mode| **mode == Mode::Owned).count() == owned.len()
         };
         let functions: Vec<usize> = (0..self.shapes.functions.len().min(32)).filter(|index| fits(&self.shapes.functions[*index])).collect();
         let Some(function) = self.random.pick(&functions) else { return false };
@@ -302,15 +325,17 @@ impl Grower<'_> {
 
     /// Grows an OP, if there is an owned slot; says whether it did.
     fn open(&mut self, path: &Path) -> bool {
-        let Some(slot) = self.random.pick(&path.owned()) else { return false };
+        let owned = self.some(path, path.owned());
+        let Some(slot) = self.random.pick(&owned) else { return false };
         let mut path = path.clone();
-        path.slots[slot].used = true;
+        path.spend(slot, true);
         self.list(path, b"OP", slot, true)
     }
 
     /// Grows an LK, if there is a lent slot; says whether it did.
     fn look(&mut self, path: &Path) -> bool {
-        let Some(slot) = self.random.pick(&path.lent()) else { return false };
+        let lent = self.some(path, path.lent());
+        let Some(slot) = self.random.pick(&lent) else { return false };
         self.list(path.clone(), b"LK", slot, false)
     }
 
@@ -320,6 +345,9 @@ impl Grower<'_> {
         self.random.shuffle(&mut constructors);
         if constructors.is_empty() {
             return false;
+        }
+        if self.fault() {
+            constructors.push(constructors[0]);
         }
         if self.random.percent(25) || constructors.len() > 12 {
             constructors.truncate(1 + self.random.below(constructors.len().min(12)));
@@ -338,7 +366,8 @@ impl Grower<'_> {
 
     /// Grows an IF, if there is a number; says whether it did.
     fn either(&mut self, path: &Path) -> bool {
-        let Some(slot) = self.random.pick(&path.numbers()) else { return false };
+        let numbers = self.some(path, path.numbers());
+        let Some(slot) = self.random.pick(&numbers) else { return false };
         let mut path = path.clone();
         self.record(&mut path, b"IF", &[slot]);
         for _ in 0..2 {
@@ -350,11 +379,12 @@ impl Grower<'_> {
 
     /// Ends a term: credits are made into trees, and trees handed over, given back or opened as atoms.
     fn close(&mut self, mut path: Path) {
-        while self.make(&mut path) {}
+        while !self.fault() && self.make(&mut path) {}
         if self.random.percent(50) && self.tail(&path) {
             return;
         }
-        let (numbers, owned) = (path.numbers(), path.owned());
+        let numbers = self.some(&path, path.numbers());
+        let owned = path.owned();
         match (path.result, owned.as_slice()) {
             (Sort::Tree, [slot]) => self.record(&mut path, b"GV", &[*slot]),
             (Sort::Number, []) if !numbers.is_empty() => {

@@ -67,11 +67,11 @@ pub fn with_slots(count: usize) -> Vec<u8> {
     file(&shapes, &[constants(8, count - 8)])
 }
 
-/// A file with so many slots on a path, the last of them bound by a branch of OP.
+/// A file with so many slots on a path up to a branch of OP, and one more by the MK in it.
 pub fn with_slots_of_a_branch(count: usize) -> Vec<u8> {
     let constructors = vec![vec![], vec![Sort::Number; 3]];
     let shapes = Shapes { constructors, functions: vec![Signature { modes: vec![Mode::Owned], result: Sort::Tree }] };
-    let numbers = count - 5;
+    let numbers = count - 4;
     let mut body = b"NU\x00\x07".repeat(numbers - 1);
     let first = numbers as u8;
     body.extend([b'O', b'P', 0, 1, b'B', b'R', 1, b'M', b'K', 1, first + 3, first, first + 1, first + 2, b'G', b'V', first + 4]);
@@ -117,8 +117,8 @@ pub fn giving_back() -> Vec<u8> {
 pub fn all() -> Vec<Vec<u8>> {
     vec![
         with_bytes(4095), with_bytes(4096), with_bytes(4097), with_constructors(64), with_constructors(65),
-        with_functions(32), with_functions(33), with_slots(32), with_slots(33), with_slots_of_a_branch(32),
-        with_slots_of_a_branch(33), with_nodes(64), with_nodes(65), with_arguments(8), with_arguments(9),
+        with_functions(32), with_functions(33), with_slots(32), with_slots(33), with_slots_of_a_branch(31),
+        with_slots_of_a_branch(32), with_slots_of_a_branch(33), with_nodes(64), with_nodes(65), with_arguments(8), with_arguments(9),
         with_branches(64, 64), with_branches(64, 65), with_branches(10, 64), giving_back(),
     ]
 }

@@ -5,11 +5,13 @@ use super::grow::Shapes;
 use crate::slow::tree::{Mode, Sort};
 use crate::{CELL_WORDS, FIRST_CELL};
 
-/// The arguments of a run and its store.
+/// The arguments of a run and its store, and the cells that were put there for owned and for lent arguments.
 #[derive(Clone)]
 pub struct Start {
     pub arguments: Vec<u32>,
     pub store: Vec<u32>,
+    pub owned: Vec<u32>,
+    pub lent: Vec<u32>,
 }
 
 /// A start that is as it should be, with so many cells in the store.
@@ -17,17 +19,17 @@ pub fn start(random: &mut Random, shapes: &Shapes, cells: usize) -> Start {
     let mut free: Vec<u32> = (0..cells as u32).collect();
     random.shuffle(&mut free);
     let store = (0..cells * CELL_WORDS).map(|_| word(random, cells)).collect();
-    let mut planter = Planter { random, shapes, store, free, lent: Vec::new() };
+    let mut planter = Planter { random, shapes, store, free, owned: Vec::new(), lent: Vec::new() };
     let modes = shapes.functions.first().map_or(&[][..], |function| &function.modes);
     let mut arguments = Vec::new();
     for mode in modes {
         arguments.push(match mode {
             Mode::Number => small(planter.random),
             Mode::Lent => planter.lent(cells / modes.len()),
-            Mode::Owned => planter.tree(cells / modes.len()),
+            Mode::Owned => planter.owned(cells / modes.len()),
         });
     }
-    Start { arguments, store: planter.store }
+    Start { arguments, store: planter.store, owned: planter.owned, lent: planter.lent }
 }
 
 /// A number word, mostly a small one.
@@ -51,6 +53,7 @@ struct Planter<'a> {
     shapes: &'a Shapes,
     store: Vec<u32>,
     free: Vec<u32>,
+    owned: Vec<u32>,
     lent: Vec<u32>,
 }
 
@@ -58,13 +61,21 @@ impl Planter<'_> {
     /// A lent tree, sometimes one that was lent before.
     fn lent(&mut self, size: usize) -> u32 {
         if self.random.percent(25)
-            && let Some(word) = self.random.pick(&self.lent)
+            && let Some(cell) = self.random.pick(&self.lent)
         {
-            return word;
+            return FIRST_CELL + cell;
         }
         let before = self.free.clone();
         let word = self.tree(size);
-        self.lent.extend(before[self.free.len()..].iter().map(|cell| FIRST_CELL + cell));
+        self.lent.extend(&before[self.free.len()..]);
+        word
+    }
+
+    /// An owned tree.
+    fn owned(&mut self, size: usize) -> u32 {
+        let before = self.free.clone();
+        let word = self.tree(size);
+        self.owned.extend(&before[self.free.len()..]);
         word
     }
 
@@ -99,7 +110,7 @@ impl Planter<'_> {
 }
 
 /// Changes a word or two of a start.
-pub fn spoil(random: &mut Random, start: &mut Start) {
+pub fn spoil(random: &mut Random, shapes: &Shapes, start: &mut Start) {
     let cells = start.store.len() / CELL_WORDS;
     for _ in 0..1 + random.below(2) {
         match random.below(8) {
@@ -113,7 +124,7 @@ pub fn spoil(random: &mut Random, start: &mut Start) {
                 start.store[place] = word(random, cells);
             }
             4 => start.store[random.below(cells) * CELL_WORDS] = random.below(5) as u32,
-            _ => link(random, start),
+            _ => link(random, shapes, start),
         }
     }
 }
@@ -134,15 +145,16 @@ fn repeat_argument(random: &mut Random, start: &mut Start) {
     }
 }
 
-/// Makes a field that names a cell name another one.
-fn link(random: &mut Random, start: &mut Start) {
-    let cells = start.store.len() / CELL_WORDS;
-    let names = |index: &usize| index % CELL_WORDS != 0 && start.store[*index] < FIRST_CELL + cells as u32;
-    let mut fields: Vec<usize> = (0..start.store.len()).filter(names).collect();
-    if random.percent(70) {
-        fields.retain(|index| start.store[*index] >= FIRST_CELL);
-    }
-    if let Some(field) = random.pick(&fields) {
-        start.store[field] = FIRST_CELL + random.below(cells) as u32;
+/// Makes a tree field of a cell name a cell: lent ones among each other, or any.
+fn link(random: &mut Random, shapes: &Shapes, start: &mut Start) {
+    let all = [&start.owned[..], &start.lent[..]].concat();
+    let from = if random.percent(60) { &start.lent } else { &all };
+    let to = if random.percent(80) { from } else { &all };
+    let (Some(cell), Some(named)) = (random.pick(from), random.pick(to)) else { return };
+    let place = cell as usize * CELL_WORDS;
+    let Some(sorts) = shapes.constructors.get(start.store[place] as usize) else { return };
+    let trees: Vec<usize> = (0..sorts.len()).filter(|index| sorts[*index] == Sort::Tree).collect();
+    if let Some(index) = random.pick(&trees) {
+        start.store[place + 1 + index] = FIRST_CELL + named;
     }
 }
