@@ -98,7 +98,7 @@ impl<'a, const TRACK: bool, C: Collect> Pass<'a, TRACK, C> {
             square: Square::new(),
             kinds: [Kind::Number; SLOTS],
             path: Path::default(),
-            pending: Vec::new(),
+            pending: Vec::with_capacity(16),
             caller: 0,
             result_tree: false,
             collect,

@@ -69,19 +69,20 @@ impl<'a> Machine<'a> {
     }
 
     /// Steps until an end.
-    fn run(&mut self, budget: u32) -> Answer {
+    fn run(mut self, budget: u32) -> Answer {
+        let program = self.program;
         let mut steps = 0;
         let (number, value, place) = loop {
-            let Node { place, instruction } = self.program.nodes[self.next];
+            let Node { place, instruction } = &program.nodes[self.next];
             if steps == budget {
-                break (32, 0, place);
+                break (32, 0, *place);
             }
             steps += 1;
             match self.step(instruction) {
                 End::Goes => {}
                 End::Done(value) => break (0, value, 0),
-                End::NoBranch => break (31, 0, place),
-                End::NoFrame => break (33, 0, place),
+                End::NoBranch => break (31, 0, *place),
+                End::NoFrame => break (33, 0, *place),
             }
         };
         let frames = (self.greatest / SLOTS + 1) as u32;
@@ -90,26 +91,23 @@ impl<'a> Machine<'a> {
 
     /// Runs one node.
     #[inline(always)]
-    fn step(&mut self, instruction: Instruction) -> End {
+    fn step(&mut self, instruction: &Instruction) -> End {
         self.next += 1;
         match instruction {
-            Instruction::Give { slot } => return self.give(self.get(slot)),
-            Instruction::Atom { constructor, bind } => self.set(bind, constructor.into()),
-            Instruction::Make { constructor, credit, arity, fields, bind } => self.make(constructor, credit, arity, fields, bind),
-            Instruction::Call { function, count, arguments, bind } => return self.call(function, count, arguments, bind),
-            Instruction::Tail { function, count, arguments } => {
-                let base = self.base;
-                self.enter(function, count, arguments, base);
-            }
-            Instruction::Open { slot } => return self.list(slot, true),
-            Instruction::Look { slot } => return self.list(slot, false),
-            Instruction::Number { constant, bind } => self.set(bind, constant.into()),
+            Instruction::Give { slot } => return self.give(self.get(*slot)),
+            Instruction::Atom { constructor, bind } => self.set(*bind, (*constructor).into()),
+            Instruction::Make { constructor, credit, arity, fields, bind } => self.make(*constructor, *credit, *arity, fields, *bind),
+            Instruction::Call { function, count, arguments, bind } => return self.call(*function, *count, arguments, *bind),
+            Instruction::Tail { function, count, arguments } => self.tail(*function, *count, arguments),
+            Instruction::Open { slot } => return self.list(*slot, true),
+            Instruction::Look { slot } => return self.list(*slot, false),
+            Instruction::Number { constant, bind } => self.set(*bind, (*constant).into()),
             Instruction::Arithmetic { operation, left, right, bind } => {
-                self.set(bind, arithmetic(operation, self.get(left), self.get(right)));
+                self.set(*bind, arithmetic(*operation, self.get(*left), self.get(*right)));
             }
             Instruction::If { slot, second } => {
-                if self.get(slot) == 0 {
-                    self.next = second.into();
+                if self.get(*slot) == 0 {
+                    self.next = (*second).into();
                 }
             }
             Instruction::Branch { .. } => return End::NoBranch,
@@ -132,45 +130,42 @@ impl<'a> Machine<'a> {
 
     /// Writes the credit's cell.
     #[inline(always)]
-    fn make(&mut self, constructor: u8, credit: u8, arity: u8, fields: [u8; 4], bind: u8) {
+    fn make(&mut self, constructor: u8, credit: u8, arity: u8, fields: &[u8; 4], bind: u8) {
         let word = self.get(credit);
-        let mut values = [0; 4];
-        for index in 0..4 {
-            values[index] = self.get(fields[index]);
-        }
-        let cell = &mut self.cells[(word - FIRST_CELL) as usize];
-        cell[0] = constructor.into();
-        for index in 0..4 {
-            if index < usize::from(arity) {
-                cell[1 + index] = values[index];
-            }
+        let number = (word - FIRST_CELL) as usize;
+        self.cells[number][0] = constructor.into();
+        for index in 0..usize::from(arity).min(4) {
+            self.cells[number][1 + index] = self.get(fields[index]);
         }
         self.set(bind, word);
     }
 
     /// Adds a frame for a function, if fewer than all stand.
     #[inline(always)]
-    fn call(&mut self, function: u8, count: u8, arguments: [u8; 8], bind: u8) -> End {
+    fn call(&mut self, function: u8, count: u8, arguments: &[u8; 8], bind: u8) -> End {
         let above = self.base + SLOTS;
         if above == ALL_SLOTS {
             return End::NoFrame;
         }
         self.returns[self.base / SLOTS & (FRAMES - 1)] = Return { node: self.next as u16, bind };
-        self.enter(function, count, arguments, above);
+        for index in 0..usize::from(count).min(8) {
+            self.slots[(above + index) & (ALL_SLOTS - 1)] = self.get(arguments[index]);
+        }
+        self.next = self.program.bodies[usize::from(function & 31)].into();
         self.base = above;
         self.greatest = self.greatest.max(above);
         End::Goes
     }
 
-    /// Hands arguments to the parameters of the frame at a base, and goes to the function's body.
+    /// Hands arguments to the parameters of the present frame, and goes to the function's body.
     #[inline(always)]
-    fn enter(&mut self, function: u8, count: u8, arguments: [u8; 8], base: usize) {
+    fn tail(&mut self, function: u8, count: u8, arguments: &[u8; 8]) {
         let mut values = [0; 8];
-        for index in 0..usize::from(count & 15).min(8) {
+        for index in 0..usize::from(count).min(8) {
             values[index] = self.get(arguments[index]);
         }
-        for index in 0..usize::from(count & 15).min(8) {
-            self.slots[(base + index) & (ALL_SLOTS - 1)] = values[index];
+        for index in 0..usize::from(count).min(8) {
+            self.set(index as u8, values[index]);
         }
         self.next = self.program.bodies[usize::from(function & 31)].into();
     }
@@ -179,29 +174,31 @@ impl<'a> Machine<'a> {
     #[inline(always)]
     fn list(&mut self, slot: u8, open: bool) -> End {
         let word = self.get(slot);
-        let cell = match word.checked_sub(FIRST_CELL) {
-            Some(number) => self.cells[number as usize],
-            None => [word, 0, 0, 0, 0],
-        };
-        while let Instruction::Branch { constructor, arity, bind, next } = self.program.nodes[self.next].instruction {
-            if cell[0] == constructor.into() {
+        let number = word.wrapping_sub(FIRST_CELL) as usize;
+        let found = if word < FIRST_CELL { word } else { self.cells[number][0] };
+        let program = self.program;
+        while let Instruction::Branch { constructor, arity, bind, next } = &program.nodes[self.next].instruction {
+            if found == u32::from(*constructor) {
                 self.next += 1;
-                self.bind_fields(&cell, arity, bind);
-                if open && arity > 0 {
-                    self.set(bind + arity, word);
+                if *arity > 0 {
+                    self.bind_fields(word, number, *arity, *bind, open);
                 }
                 return End::Goes;
             }
-            self.next = next.into();
+            self.next = (*next).into();
         }
         End::NoBranch
     }
 
-    /// Binds the fields of a cell.
+    /// Binds the fields of a cell, and the cell as a credit if it is opened.
     #[inline(always)]
-    fn bind_fields(&mut self, cell: &Cell, arity: u8, bind: u8) {
+    fn bind_fields(&mut self, word: u32, number: usize, arity: u8, bind: u8, open: bool) {
+        let cell = self.cells[number];
         for index in 0..arity.min(4) {
             self.set(bind + index, cell[1 + usize::from(index)]);
+        }
+        if open {
+            self.set(bind + arity, word);
         }
     }
 

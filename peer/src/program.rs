@@ -18,8 +18,9 @@ pub enum Instruction {
     If { slot: u8, second: u16 },
 }
 
-/// An instruction with the place of its mark.
+/// An instruction with the place of its mark, sixteen bytes in all.
 #[derive(Clone, Copy)]
+#[repr(align(16))]
 pub struct Node {
     pub place: u16,
     pub instruction: Instruction,

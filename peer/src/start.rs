@@ -52,34 +52,37 @@ pub fn start(declared: &Declared, modes: &[Mode], arguments: &[u32], cells: &[Ce
 }
 
 impl Walk<'_> {
-    /// Walks everything reached from a word of an owned argument.
+    /// Walks everything reached from a word of an owned argument; a stack entry is a cell and the tree fields still to be walked.
     fn owned(&mut self, word: u32) -> Result<(), u8> {
-        self.meet_owned(word)?;
-        while self.height > 0 {
-            self.height -= 1;
-            let number = self.stack[self.height] as usize;
-            let cell = self.cells[number];
-            let mut trees = self.shape(&cell)?.trees;
-            while trees != 0 {
-                self.meet_owned(cell[1 + (trees.trailing_zeros() & 3) as usize])?;
-                trees &= trees - 1;
+        let mut due = Some(word);
+        while let Some(word) = due {
+            let mut entry = 0;
+            if let Some((number, trees)) = self.named(word)? {
+                if self.marks[number] == FRESH {
+                    self.marks[number] = OWNED;
+                    entry = (number as u32) << 4 | u32::from(trees);
+                } else {
+                    self.shared = true;
+                }
             }
+            due = self.next_due(entry);
         }
         Ok(())
     }
 
-    /// Meets a word at a place of an owned argument or cell.
+    /// The first tree field of an entry, or of the uppermost on the stack if this one has none; the entry's others are put on the stack.
     #[inline(always)]
-    fn meet_owned(&mut self, word: u32) -> Result<(), u8> {
-        let Some(number) = self.named(word)? else { return Ok(()) };
-        if self.marks[number] == FRESH {
-            self.marks[number] = OWNED;
-            self.stack[self.height] = number as u32;
-            self.height += 1;
-        } else {
-            self.shared = true;
+    fn next_due(&mut self, mut entry: u32) -> Option<u32> {
+        if entry & 15 == 0 {
+            self.height = self.height.checked_sub(1)?;
+            entry = self.stack[self.height];
         }
-        Ok(())
+        let others = entry & (entry - 1);
+        if others & 15 != 0 {
+            self.stack[self.height] = others;
+            self.height += 1;
+        }
+        Some(self.cells[(entry >> 4) as usize][1 + (entry.trailing_zeros() & 3) as usize])
     }
 
     /// Walks everything reached from a word of a lent argument; a stack entry is a cell and the tree fields still to be walked.
@@ -103,10 +106,9 @@ impl Walk<'_> {
     /// Meets a word at a place of a lent argument or cell.
     #[inline(always)]
     fn meet_lent(&mut self, word: u32) -> Result<(), u8> {
-        let Some(number) = self.named(word)? else { return Ok(()) };
+        let Some((number, trees)) = self.named(word)? else { return Ok(()) };
         match self.marks[number] {
             FRESH => {
-                let trees = self.shape(&self.cells[number])?.trees;
                 self.marks[number] = ENTERED;
                 self.stack[self.height] = (number as u32) << 4 | u32::from(trees);
                 self.height += 1;
@@ -118,9 +120,9 @@ impl Walk<'_> {
         Ok(())
     }
 
-    /// The cell that a tree word names, nothing for an atom, and 22 for a malformed word.
+    /// The cell that a tree word names and its tree fields, nothing for an atom, and 22 for a malformed word.
     #[inline(always)]
-    fn named(&self, word: u32) -> Result<Option<usize>, u8> {
+    fn named(&self, word: u32) -> Result<Option<(usize, u8)>, u8> {
         if word < FIRST_CELL {
             return match self.declared.constructor(word) {
                 Some(Constructor { arity: 0, .. }) => Ok(None),
@@ -129,21 +131,9 @@ impl Walk<'_> {
         }
         let number = (word - FIRST_CELL) as usize;
         let cell = self.cells.get(number).ok_or(22)?;
-        let Constructor { arity, trees } = self.shape(cell)?;
-        for index in 0..usize::from(arity & 7) {
-            if trees >> index & 1 == 0 && cell[1 + (index & 3)] >= FIRST_CELL {
-                return Err(22);
-            }
-        }
-        Ok(Some(number))
-    }
-
-    /// The constructor of a cell, which must have an arity of 1 or more.
-    #[inline(always)]
-    fn shape(&self, cell: &Cell) -> Result<Constructor, u8> {
-        match self.declared.constructor(cell[0]) {
-            Some(constructor) if constructor.arity > 0 => Ok(constructor),
-            _ => Err(22),
-        }
+        let constructor = self.declared.constructor(cell[0]).ok_or(22)?;
+        let numbers = !constructor.trees & ((1 << (constructor.arity & 7)) - 1);
+        let too_large = (0..4).any(|index| numbers >> index & 1 == 1 && cell[1 + index] >= FIRST_CELL);
+        if constructor.arity == 0 || too_large { Err(22) } else { Ok(Some((number, constructor.trees))) }
     }
 }
