@@ -14,6 +14,6 @@ fn main() {
     };
     println!("cargo::rerun-if-changed={library}");
     println!("cargo::rustc-link-search=native={}", folder.display());
-    println!("cargo::rustc-link-lib=static={name}");
+    println!("cargo::rustc-link-lib=static:-bundle={name}");
     println!("cargo::rustc-cfg=proved_library");
 }

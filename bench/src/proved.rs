@@ -34,9 +34,10 @@ pub fn check(file: &[u8]) -> Verdict {
     // SAFETY: both pointers come from live slices of the lengths passed with them, and the library keeps neither.
     unsafe { library::base_check(file.as_ptr(), file.len(), out.as_mut_ptr(), out.len()) };
     match out {
-        [0, depth, reached, _] => Verdict::Flat { depth, reached },
-        [1, reached, _, _] => Verdict::Stacked { reached },
-        [_, number, place, _] => Verdict::Refused { number, place },
+        [0, depth, reached, 0] => Verdict::Flat { depth, reached },
+        [1, reached, 0, 0] => Verdict::Stacked { reached },
+        [2, number, place, 0] => Verdict::Refused { number, place },
+        _ => panic!("an odd verdict: {out:?}"),
     }
 }
 

@@ -1,8 +1,8 @@
 //! What is measured: files with their starts, and loops that do the same without a machine.
 
 use peer::CELL_WORDS;
-use peer::random::known::{KNOWN, constructors};
 use peer::random::grow::{Shapes, Signature, declarations};
+use peer::random::known::{KNOWN, constructors};
 use peer::random::limits::{giving_back, with_bytes};
 use peer::slow::tree::{Mode, Sort};
 use std::hint::black_box;
@@ -11,7 +11,8 @@ use std::hint::black_box;
 const FIRST_CELL: u32 = 65_536;
 
 /// The reversal file of document 01.
-pub const REVERSAL: &[u8] = b"CN\x00CN\x02\x00\x01FN\x02\x02\x02\x01BDOP\x00\x02BR\x00GV\x01BR\x01MK\x01\x04\x02\x01TL\x00\x03\x05ND";
+pub const REVERSAL: &[u8] =
+    b"CN\x00CN\x02\x00\x01FN\x02\x02\x02\x01BDOP\x00\x02BR\x00GV\x01BR\x01MK\x01\x04\x02\x01TL\x00\x03\x05ND";
 
 /// A file that counts its first argument down and adds up what it passes.
 const COUNT: &[u8] = b"FN\x02\x00\x00\x00BDIF\x00NU\x00\x01AR\x01\x00\x02AR\x00\x01\x00TL\x00\x03\x04GV\x01ND";
@@ -187,7 +188,8 @@ pub fn file_of(length: usize) -> Vec<u8> {
     };
     let mut shapes = Shapes { constructors: constructors(), functions: (0..count).map(signature).collect() };
     shapes.functions.push(Signature { modes: vec![Mode::Number], result: Sort::Number });
-    let bodies: Vec<u8> = (0..count).flat_map(|index| [b"BD".to_vec(), (KNOWN[index % KNOWN.len()].body)(index as u8)].concat()).collect();
+    let bodies: Vec<u8> =
+        (0..count).flat_map(|index| [b"BD".to_vec(), (KNOWN[index % KNOWN.len()].body)(index as u8)].concat()).collect();
     let last = length - declarations(&shapes).len() - bodies.len() - 4;
     [declarations(&shapes), bodies, b"BD".to_vec(), filler(last), b"ND".to_vec()].concat()
 }

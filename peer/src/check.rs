@@ -144,11 +144,7 @@ impl<'a, const TRACK: bool, C: Collect> Pass<'a, TRACK, C> {
         for index in 0..arity {
             trees |= self.up_to(1)? << index;
         }
-        if self.declared.add_constructor(Constructor { arity, trees }) {
-            Ok(())
-        } else {
-            Err(Refusal::new(5, mark_place))
-        }
+        if self.declared.add_constructor(Constructor { arity, trees }) { Ok(()) } else { Err(Refusal::new(5, mark_place)) }
     }
 
     /// Reads the fields of an FN.

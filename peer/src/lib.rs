@@ -13,6 +13,7 @@ mod start;
 pub mod input;
 pub mod random;
 pub mod slow;
+pub mod text;
 
 pub use check::check;
 pub use machine::run;

@@ -96,7 +96,9 @@ impl<'a> Machine<'a> {
         match instruction {
             Instruction::Give { slot } => return self.give(self.get(*slot)),
             Instruction::Atom { constructor, bind } => self.set(*bind, (*constructor).into()),
-            Instruction::Make { constructor, credit, arity, fields, bind } => self.make(*constructor, *credit, *arity, fields, *bind),
+            Instruction::Make { constructor, credit, arity, fields, bind } => {
+                self.make(*constructor, *credit, *arity, fields, *bind)
+            }
             Instruction::Call { function, count, arguments, bind } => return self.call(*function, *count, arguments, *bind),
             Instruction::Tail { function, count, arguments } => self.tail(*function, *count, arguments),
             Instruction::Open { slot } => return self.list(*slot, true),

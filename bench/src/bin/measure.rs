@@ -20,7 +20,10 @@ type Measured<'a> = Box<dyn FnMut() + 'a>;
 /// Prints the whole table; an argument restricts it to the rows whose name contains it.
 fn main() {
     let wanted = std::env::args().nth(1).unwrap_or_default();
-    println!("{:<42} {:>11} {:>11} {:>11} {:>8} {:>8} {:>8}", "nanoseconds", "proved", "peer", "native", "pr/peer", "pr/nat", "peer/nat");
+    println!(
+        "{:<42} {:>11} {:>11} {:>11} {:>8} {:>8} {:>8}",
+        "nanoseconds", "proved", "peer", "native", "pr/peer", "pr/nat", "peer/nat"
+    );
     for (name, file) in files() {
         if name.contains(&wanted) {
             assert!(!matches!(peer::check(&file), Verdict::Refused { .. }), "{name}");
@@ -61,7 +64,8 @@ fn row(name: &str, mut measured: [Option<Measured>; 3]) {
     let times: [usize; 3] = std::array::from_fn(|index| measured[index].as_mut().map_or(0, repetitions));
     let mut rounds = Vec::new();
     for _ in 0..ROUNDS {
-        let round: [f64; 3] = std::array::from_fn(|index| measured[index].as_mut().map_or(f64::NAN, |measured| once(measured, times[index])));
+        let round: [f64; 3] =
+            std::array::from_fn(|index| measured[index].as_mut().map_or(f64::NAN, |measured| once(measured, times[index])));
         rounds.push(round);
     }
     let least = |index: usize| cell(rounds.iter().map(|round| round[index]).fold(f64::NAN, f64::min), 1);

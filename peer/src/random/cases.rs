@@ -49,7 +49,8 @@ pub fn file(random: &mut Random) -> (Vec<u8>, Shapes) {
 /// What a file declares, if it can be read.
 fn declared(file: &[u8]) -> Shapes {
     let Ok(rules) = read(file) else { return Shapes::default() };
-    let signature = |function: &crate::slow::tree::Function| grow::Signature { modes: function.modes.clone(), result: function.result };
+    let signature =
+        |function: &crate::slow::tree::Function| grow::Signature { modes: function.modes.clone(), result: function.result };
     Shapes { constructors: rules.constructors, functions: rules.functions.iter().map(signature).collect() }
 }
 

@@ -302,9 +302,11 @@ impl Grower<'_> {
         let mut owned = path.owned();
         let other_result = self.fault();
         let fits = |signature: &Signature| {
-            (signature.result == path.result || other_result) && signature.modes.iter().filter(|mode| **mode == Mode::Owned).count() == owned.len()
+            (signature.result == path.result || other_result)
+                && signature.modes.iter().filter(|mode| **mode == Mode::Owned).count() == owned.len()
         };
-        let functions: Vec<usize> = (0..self.shapes.functions.len().min(32)).filter(|index| fits(&self.shapes.functions[*index])).collect();
+        let functions: Vec<usize> =
+            (0..self.shapes.functions.len().min(32)).filter(|index| fits(&self.shapes.functions[*index])).collect();
         let Some(function) = self.random.pick(&functions) else { return false };
         self.random.shuffle(&mut owned);
         let mut fields = vec![function];

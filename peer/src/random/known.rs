@@ -37,6 +37,7 @@ fn join(records: &[&[u8]]) -> Vec<u8> {
 }
 
 /// Reverses the first list onto the second.
+#[rustfmt::skip]
 fn reverse(number: u8) -> Vec<u8> {
     join(&[
         b"OP", &[0, 3], b"BR", &[NIL], b"GV", &[1],
@@ -46,6 +47,7 @@ fn reverse(number: u8) -> Vec<u8> {
 }
 
 /// Adds the numbers of a lent list or tree to a number.
+#[rustfmt::skip]
 fn sum(number: u8) -> Vec<u8> {
     join(&[
         b"LK", &[0, 3], b"BR", &[NIL], b"GV", &[1],
@@ -55,6 +57,7 @@ fn sum(number: u8) -> Vec<u8> {
 }
 
 /// Adds a number to each number of a list or tree, in place.
+#[rustfmt::skip]
 fn raise(number: u8) -> Vec<u8> {
     join(&[
         b"OP", &[0, 3], b"BR", &[NIL], b"AT", &[NIL], b"GV", &[2],
@@ -69,6 +72,7 @@ fn count(number: u8) -> Vec<u8> {
 }
 
 /// Adds one to the first number of a list if the lent tree is an atom.
+#[rustfmt::skip]
 fn weigh(_number: u8) -> Vec<u8> {
     join(&[
         b"LK", &[1, 2],

@@ -97,7 +97,10 @@ pub fn with_arguments(count: usize) -> Vec<u8> {
 
 /// A file with so many constructors and branches.
 pub fn with_branches(constructors: usize, count: usize) -> Vec<u8> {
-    let shapes = Shapes { constructors: vec![vec![]; constructors], functions: vec![Signature { modes: vec![Mode::Lent], result: Sort::Number }] };
+    let shapes = Shapes {
+        constructors: vec![vec![]; constructors],
+        functions: vec![Signature { modes: vec![Mode::Lent], result: Sort::Number }],
+    };
     let mut body = vec![b'L', b'K', 0, count as u8];
     for branch in 0..count {
         body.extend([b'B', b'R', branch.min(constructors - 1) as u8]);
@@ -116,9 +119,25 @@ pub fn giving_back() -> Vec<u8> {
 /// All files, at the limit and one over it.
 pub fn all() -> Vec<Vec<u8>> {
     vec![
-        with_bytes(4095), with_bytes(4096), with_bytes(4097), with_constructors(64), with_constructors(65),
-        with_functions(32), with_functions(33), with_slots(32), with_slots(33), with_slots_of_a_branch(31),
-        with_slots_of_a_branch(32), with_slots_of_a_branch(33), with_nodes(64), with_nodes(65), with_arguments(8), with_arguments(9),
-        with_branches(64, 64), with_branches(64, 65), with_branches(10, 64), giving_back(),
+        with_bytes(4095),
+        with_bytes(4096),
+        with_bytes(4097),
+        with_constructors(64),
+        with_constructors(65),
+        with_functions(32),
+        with_functions(33),
+        with_slots(32),
+        with_slots(33),
+        with_slots_of_a_branch(31),
+        with_slots_of_a_branch(32),
+        with_slots_of_a_branch(33),
+        with_nodes(64),
+        with_nodes(65),
+        with_arguments(8),
+        with_arguments(9),
+        with_branches(64, 64),
+        with_branches(64, 65),
+        with_branches(10, 64),
+        giving_back(),
     ]
 }

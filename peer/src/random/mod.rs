@@ -3,8 +3,8 @@
 pub mod cases;
 pub mod damage;
 pub mod grow;
-pub mod limits;
 pub mod known;
+pub mod limits;
 pub mod starts;
 
 /// A generator of numbers that its seed determines.

@@ -205,9 +205,7 @@ fn call(function: &Function, arguments: &[Byte], context: &Context, borrowed: &B
 fn tuple(values: &[Value], context: &Context, owned: &[Thing]) -> bool {
     match values.split_first() {
         None => owned.is_empty(),
-        Some((first, others)) => {
-            splits(owned).any(|(part, rest)| value(*first, context, &part) && tuple(others, context, &rest))
-        }
+        Some((first, others)) => splits(owned).any(|(part, rest)| value(*first, context, &part) && tuple(others, context, &rest)),
     }
 }
 

@@ -128,7 +128,13 @@ impl Evaluation<'_> {
                 }
                 Node::Open { slot, branches } => fitting(at, &mut bound, *slot, branches, true)?,
                 Node::Look { slot, branches } => fitting(at, &mut bound, *slot, branches, false)?,
-                Node::If { slot, first, second } => if number(&bound, *slot) != 0 { first } else { second },
+                Node::If { slot, first, second } => {
+                    if number(&bound, *slot) != 0 {
+                        first
+                    } else {
+                        second
+                    }
+                }
                 node => simple(node, &mut bound),
             };
         }

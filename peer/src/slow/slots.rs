@@ -88,6 +88,19 @@ fn term(rules: &Rules, result: Sort, at: &Term, mut slots: Vec<Slot>) -> Result<
             hand_over(&mut slots, &rules.functions[function.value], arguments)?;
             nothing_left(&slots, at.mark)
         }
+        Node::Number { next, .. } => follow(rules, result, next, slots, Kind::Number),
+        Node::Arithmetic { left, right, next, .. } => {
+            take(&mut slots, *left, &[Kind::Number], false)?;
+            take(&mut slots, *right, &[Kind::Number], false)?;
+            follow(rules, result, next, slots, Kind::Number)
+        }
+        node => branching(rules, result, node, slots),
+    }
+}
+
+/// Tests a node whose terms start from the same slots.
+fn branching(rules: &Rules, result: Sort, node: &Node, mut slots: Vec<Slot>) -> Result<(), Refusal> {
+    match node {
         Node::Open { slot, branches } => {
             take(&mut slots, *slot, &[Kind::Owned], true)?;
             list(rules, result, branches, &slots, true)
@@ -96,17 +109,12 @@ fn term(rules: &Rules, result: Sort, at: &Term, mut slots: Vec<Slot>) -> Result<
             take(&mut slots, *slot, &[Kind::Lent], false)?;
             list(rules, result, branches, &slots, false)
         }
-        Node::Number { next, .. } => follow(rules, result, next, slots, Kind::Number),
-        Node::Arithmetic { left, right, next, .. } => {
-            take(&mut slots, *left, &[Kind::Number], false)?;
-            take(&mut slots, *right, &[Kind::Number], false)?;
-            follow(rules, result, next, slots, Kind::Number)
-        }
         Node::If { slot, first, second } => {
             take(&mut slots, *slot, &[Kind::Number], false)?;
             term(rules, result, first, slots.clone())?;
             term(rules, result, second, slots)
         }
+        _ => panic!("a node with several terms"),
     }
 }
 
