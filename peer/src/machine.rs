@@ -124,7 +124,7 @@ impl<'a> Machine<'a> {
             return End::Done(value);
         }
         self.base -= SLOTS;
-        let Return { node, bind } = self.returns[self.base / SLOTS & (FRAMES - 1)];
+        let Return { node, bind } = self.returns[(self.base / SLOTS) & (FRAMES - 1)];
         self.next = node.into();
         self.set(bind, value);
         End::Goes
@@ -136,8 +136,8 @@ impl<'a> Machine<'a> {
         let word = self.get(credit);
         let number = (word - FIRST_CELL) as usize;
         self.cells[number][0] = constructor.into();
-        for index in 0..usize::from(arity).min(4) {
-            self.cells[number][1 + index] = self.get(fields[index]);
+        for (index, field) in fields.iter().enumerate().take(arity.into()) {
+            self.cells[number][1 + index] = self.get(*field);
         }
         self.set(bind, word);
     }
@@ -149,9 +149,9 @@ impl<'a> Machine<'a> {
         if above == ALL_SLOTS {
             return End::NoFrame;
         }
-        self.returns[self.base / SLOTS & (FRAMES - 1)] = Return { node: self.next as u16, bind };
-        for index in 0..usize::from(count).min(8) {
-            self.slots[(above + index) & (ALL_SLOTS - 1)] = self.get(arguments[index]);
+        self.returns[(self.base / SLOTS) & (FRAMES - 1)] = Return { node: self.next as u16, bind };
+        for (index, argument) in arguments.iter().enumerate().take(count.into()) {
+            self.slots[(above + index) & (ALL_SLOTS - 1)] = self.get(*argument);
         }
         self.next = self.program.bodies[usize::from(function & 31)].into();
         self.base = above;
@@ -163,11 +163,11 @@ impl<'a> Machine<'a> {
     #[inline(always)]
     fn tail(&mut self, function: u8, count: u8, arguments: &[u8; 8]) {
         let mut values = [0; 8];
-        for index in 0..usize::from(count).min(8) {
-            values[index] = self.get(arguments[index]);
+        for (value, argument) in values.iter_mut().zip(arguments).take(count.into()) {
+            *value = self.get(*argument);
         }
-        for index in 0..usize::from(count).min(8) {
-            self.set(index as u8, values[index]);
+        for (slot, value) in (0..count).zip(values) {
+            self.set(slot, value);
         }
         self.next = self.program.bodies[usize::from(function & 31)].into();
     }

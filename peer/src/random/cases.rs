@@ -80,7 +80,7 @@ fn work(random: &mut Random) -> Vec<u32> {
         2..50 => WORK_WORDS,
         _ => WORK_WORDS + random.below(9),
     };
-    let word = random.next() as u32;
+    let word = random.number() as u32;
     vec![word; length]
 }
 

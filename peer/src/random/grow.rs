@@ -272,7 +272,8 @@ impl Grower<'_> {
                 Mode::Lent => path.of(|kind| matches!(kind, Kind::Lent | Kind::Owned)),
                 Mode::Owned => path.owned(),
             };
-            fitting.retain(|slot| !handed.contains(slot) && !(*mode == Mode::Owned && chosen.contains(slot)));
+            let barred = if *mode == Mode::Owned { &chosen } else { &handed };
+            fitting.retain(|slot| !barred.contains(slot));
             let fitting = self.some(path, fitting);
             let slot = self.random.pick(&fitting)?;
             chosen.push(slot);

@@ -40,7 +40,7 @@ fn small(random: &mut Random) -> u32 {
 /// A word that may be anything.
 fn word(random: &mut Random, cells: usize) -> u32 {
     match random.below(6) {
-        0 => random.next() as u32,
+        0 => random.number() as u32,
         1 | 2 => random.below(5) as u32,
         3 => FIRST_CELL - 1 + random.below(3) as u32,
         _ => FIRST_CELL + random.below(cells + 1) as u32,

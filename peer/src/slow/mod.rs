@@ -30,7 +30,7 @@ pub fn check(file: &[u8]) -> Verdict {
 /// The refusal of a run before its first step, if it is refused.
 pub fn refusal(file: &[u8], arguments: &[u32], store: &[u32], work: &[u32]) -> Result<Rules, Refusal> {
     let rules = accept(file)?;
-    if store.len() % CELL_WORDS != 0 || store.len() > CELLS * CELL_WORDS || work.len() < WORK_WORDS {
+    if !store.len().is_multiple_of(CELL_WORDS) || store.len() > CELLS * CELL_WORDS || work.len() < WORK_WORDS {
         return Err(Refusal::new(20, 0));
     }
     if rules.functions[0].modes.len() != arguments.len() {
