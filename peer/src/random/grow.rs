@@ -54,7 +54,7 @@ pub fn shapes(random: &mut Random) -> (Shapes, bool) {
 pub fn file(random: &mut Random) -> (Vec<u8>, Shapes) {
     let (shapes, with_known) = shapes(random);
     let own = shapes.functions.len() - if with_known { known::KNOWN.len() } else { 0 };
-    let faults = if random.percent(20) { 8 } else { 0 };
+    let faults = if random.percent(20) { 10 } else { 0 };
     let mut grower = Grower { random, shapes, bytes: Vec::new(), faults };
     grower.declare();
     for function in 0..own {
@@ -117,10 +117,17 @@ impl Path {
         self.of(|kind| kind == Kind::Lent)
     }
 
-    /// The credits with their sizes.
-    fn credits(&self) -> Vec<(usize, usize)> {
-        let size = |index: usize| if let Kind::Credit(size) = self.slots[index].kind { size } else { 0 };
-        self.of(|kind| matches!(kind, Kind::Credit(_))).into_iter().map(|index| (index, size(index))).collect()
+    /// The credits with their sizes, those that are used too if they are wanted.
+    fn credits(&self, used: bool) -> Vec<(usize, usize)> {
+        let mut credits = Vec::new();
+        for (index, slot) in self.slots.iter().enumerate() {
+            if let Kind::Credit(size) = slot.kind
+                && (used || !slot.used)
+            {
+                credits.push((index, size));
+            }
+        }
+        credits
     }
 
     /// Makes a slot used if it is bound and spent.
@@ -231,7 +238,8 @@ impl Grower<'_> {
 
     /// Grows an MK, if there is a credit, with what it lacks bound before; says whether it did.
     fn make(&mut self, path: &mut Path) -> bool {
-        let Some((credit, size)) = self.random.pick(&path.credits()) else { return false };
+        let used = self.fault();
+        let Some((credit, size)) = self.random.pick(&path.credits(used)) else { return false };
         let other_size = self.fault();
         let constructors = self.with_arity(|arity| arity == size || other_size && arity > 0);
         let Some(constructor) = self.random.pick(&constructors) else { return false };
@@ -319,7 +327,7 @@ impl Grower<'_> {
             };
             fields.extend(slot);
         }
-        if !path.credits().is_empty() || fields.len() != 1 + self.shapes.functions[function].modes.len() {
+        if !path.credits(false).is_empty() || fields.len() != 1 + self.shapes.functions[function].modes.len() {
             return false;
         }
         self.record(&mut path.clone(), b"TL", &fields);
@@ -391,7 +399,8 @@ impl Grower<'_> {
         match (path.result, owned.as_slice()) {
             (Sort::Tree, [slot]) => self.record(&mut path, b"GV", &[*slot]),
             (Sort::Number, []) if !numbers.is_empty() => {
-                let slot = self.random.pick(&numbers).unwrap_or(0);
+                let last = numbers[numbers.len() - 1];
+                let slot = if self.random.percent(60) { last } else { self.random.pick(&numbers).unwrap_or(0) };
                 self.record(&mut path, b"GV", &[slot]);
             }
             (Sort::Number, []) => {

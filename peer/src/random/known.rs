@@ -23,12 +23,13 @@ pub fn constructors() -> Vec<Vec<Sort>> {
 }
 
 /// All functions.
-pub const KNOWN: [Known; 5] = [
+pub const KNOWN: [Known; 6] = [
     Known { modes: &[Mode::Owned, Mode::Owned], result: Sort::Tree, body: reverse },
     Known { modes: &[Mode::Lent, Mode::Number], result: Sort::Number, body: sum },
     Known { modes: &[Mode::Owned, Mode::Number], result: Sort::Tree, body: raise },
     Known { modes: &[Mode::Number, Mode::Number], result: Sort::Number, body: count },
     Known { modes: &[Mode::Owned, Mode::Lent], result: Sort::Tree, body: weigh },
+    Known { modes: &[Mode::Number; 8], result: Sort::Number, body: turn },
 ];
 
 /// Joins records to a body.
@@ -80,6 +81,15 @@ fn weigh(_number: u8) -> Vec<u8> {
         b"BR", &[NIL], b"AT", &[NIL], b"GV", &[2],
         b"BR", &[CONS], b"NU", &[0, 1], b"AR", &[0, 2, 5], b"MK", &[CONS, 4, 6, 3], b"GV", &[7],
         b"BR", &[CONS], b"GV", &[0],
+    ])
+}
+
+/// Turns seven numbers round as often as the first argument says, and gives the difference of two of them.
+#[rustfmt::skip]
+fn turn(number: u8) -> Vec<u8> {
+    join(&[
+        b"IF", &[0], b"NU", &[0, 1], b"AR", &[1, 0, 8], b"TL", &[number, 9, 2, 3, 4, 5, 6, 7, 1],
+        b"AR", &[1, 1, 7], b"GV", &[8],
     ])
 }
 
