@@ -1,0 +1,5 @@
+//! What the comparing and the measuring program share.
+#![deny(unsafe_code)]
+
+pub mod proved;
+pub mod workloads;
