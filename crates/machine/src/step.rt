@@ -19,11 +19,10 @@ use crate::frame::bind;
 use crate::frame::byte;
 use crate::frame::fill;
 use crate::frame::finish;
-use crate::frame::gather;
 use crate::frame::go_to;
 use crate::frame::hand_over;
-use crate::frame::lay;
 use crate::frame::load;
+use crate::frame::pass_on;
 use crate::frame::slot;
 use crate::frame::wide;
 use meaning::AR;
@@ -167,8 +166,7 @@ fn tail(file: &[u8], decl: &[u32; 128], work: &mut [u32], s: State) -> State
     let base = s.frame.depth * Frame::SLOTS;
     let g = byte(file, at + 2);
     let n = params(decl, g);
-    let values = gather(file, work, base, at + 3, n);
-    lay(work, base, values, n);
+    pass_on(file, work, base, at + 3, n);
     State {
         frame: Frame {
             at: body(decl, g),

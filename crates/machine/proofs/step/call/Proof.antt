@@ -18,7 +18,7 @@ use borrow.Author.Tests.{le-leb, lt-leb}
 use Rattle.machine.specs.Layout.{clOf}
 use Rattle.meaning.specs.Choice.{pick}
 use Rattle.standing.specs.Bytes.{paramsIn, byteAt}
-use Rattle.machine.proofs.frame.Laid.{gathered-above}
+use Rattle.machine.proofs.frame.Laid.{gathered-above, low-apart}
 
 sub-if1 : tie.Need-sub-if1
 sub-if1 c = search needs
@@ -82,7 +82,7 @@ add-hand-over-2 : tie.Need-add-hand-over-2
 add-hand-over-2 c = search needs
 
 hand-over-requires : tie.Need-hand-over-requires
-hand-over-requires c κs = let e = c .before .before .params .ensures .0 ∙ ap (λ g. paramsIn (c .before .before .before .before .before .before .before .args .decl .now) g) (c .before .before .before .byte .ensures .0) in (omega (arith, e), omega arith, simp length-set (omega (arith, e)), rw e (c .before .before .before .before .before .before .before .pre .7))
+hand-over-requires c κs = let e = c .before .before .params .ensures .0 ∙ ap (λ g. paramsIn (c .before .before .before .before .before .before .before .args .decl .now) g) (c .before .before .before .byte .ensures .0) in (omega (arith, e), simp length-set (omega arith), simp length-set (omega (arith, e)), low-apart (c .before .before .before .before .before .before .before .args .file .now) (c .before .before .before .before .before .before .before .args .s .frame .depth * 32) (c .before .before .before .before .before .before .before .args .s .frame .at + 3) (c .before .before .before .before .before .before .before .args .s .frame .depth * 32 + 32) (c .before .before .params .result) (omega arith) (rw e (c .before .before .before .before .before .before .before .pre .7)))
 
 body-requires : tie.Need-body-requires
 body-requires c κs = search needs
