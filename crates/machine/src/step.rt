@@ -7,7 +7,7 @@ ghost use Rattle.meaning.specs.Plain.{arithmetic};
 ghost use Rattle.meaning.specs.Machine.{run};
 ghost use Rattle.meaning.specs.InPlace.{begins};
 ghost use Rattle.standing.specs.Bytes.{markAt, arityIn, paramsIn, bodyIn};
-ghost use Rattle.machine.specs.Layout.{slotIn, top, nuOf, atOf, arOf, gvOf, tlOf, clOf, mkOf, mkStore, conOf, openedOf, opOf, firstOf};
+ghost use Rattle.machine.specs.Layout.{top, nuOf, atOf, arOf, gvOf, tlOf, clOf, mkOf, mkStore, conOf, openedOf, firstOf};
 ghost use Rattle.machine.specs.Skips.{Safe, thenOf, Skips, SkipsAll, Found, EndNeeds, Keeps};
 ghost use Rattle.machine.specs.Needs.{Room, MkNeeds, CallNeeds, OpenNeeds};
 ghost use Rattle.machine.specs.Represents.{Fit, Begun};

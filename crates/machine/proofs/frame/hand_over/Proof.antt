@@ -1,12 +1,10 @@
 -- The proof of `hand_over`. Assumes nothing.
 use Rattle.machine.proofs.frame.hand_over.Statement.{statement}
 use Rattle.machine.proofs.frame.hand_over.Tie as tie
-use Rattle.machine.proofs.frame.hand_over.Reads as reads
-use Rattle.machine.proofs.frame.hand_over.Lts as lts
 use Rattle.machine.proofs.frame.slot.Reads as slot-reads
-use Prim.Native.Nat.{ℕ, suc, _+_, _-_, _≤_, _<_}
+use Prim.Native.Nat.{ℕ, _+_, _-_, _≤_, _<_}
 use mathlib.Core.Logic.{_⊎_}
-use mathlib.Core.Path.{_≡_, refl, sym, ap, _∙_}
+use mathlib.Core.Path.{_≡_, refl}
 use native.Mathlib.Omega.{arith}
 use lib.ListN.{length, getD, length-set}
 use Rattle.machine.specs.Layout.{laid, gathered}

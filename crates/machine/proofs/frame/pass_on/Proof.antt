@@ -2,16 +2,11 @@
 use borrow.Author.Needs.{needs}
 use Rattle.machine.proofs.frame.pass_on.Statement.{statement}
 use Rattle.machine.proofs.frame.pass_on.Tie as tie
-use Rattle.machine.proofs.frame.pass_on.Reads as reads
-use Rattle.machine.proofs.frame.pass_on.Lts as lts
 use Rattle.machine.proofs.frame.gather.Reads as gather-reads
 use Rattle.machine.proofs.frame.hand_over.Reads as hand-over-reads
 use Rattle.machine.proofs.frame.lay.Reads as lay-reads
 use Rattle.machine.proofs.frame.rising.Reads as rising-reads
 use native.Mathlib.Omega.{arith}
-use Prim.Native.Nat.{ℕ, _+_, _≤_}
-use mathlib.Core.Logic.{inr}
-use mathlib.Core.Path.{_≡_, refl, sym, ap, _∙_}
 use Rattle.machine.proofs.frame.Laid.{rising-apart, gathered-laid}
 
 rising-requires : tie.Need-rising-requires

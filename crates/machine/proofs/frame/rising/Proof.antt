@@ -1,12 +1,8 @@
 -- The proof of `rising`. Assumes nothing.
 use Rattle.machine.proofs.frame.rising.Statement.{statement}
 use Rattle.machine.proofs.frame.rising.Tie as tie
-use Rattle.machine.proofs.frame.rising.Reads as reads
-use Rattle.machine.proofs.frame.rising.Lts as lts
 use Rattle.machine.proofs.frame.byte.Reads as byte-reads
-use Prim.Native.Nat.{ℕ, suc, _+_, _-_, _≤_, _<_}
-use mathlib.Core.Bool.{Bool, true, false}
-use mathlib.Core.Path.{_≡_, refl, sym, ap, _∙_}
+use Prim.Native.Nat.{ℕ, _+_, _-_, _≤_, _<_}
 use native.Mathlib.Omega.{arith}
 use Rattle.standing.specs.Bytes.{byteAt}
 use Rattle.machine.proofs.frame.Laid.{rises, not-so}

@@ -2,8 +2,6 @@
 use borrow.Author.Needs.{needs}
 use Rattle.machine.proofs.step.call.Statement.{statement}
 use Rattle.machine.proofs.step.call.Tie as tie
-use Rattle.machine.proofs.step.call.Reads as reads
-use Rattle.machine.proofs.step.call.Lts as lts
 use Rattle.machine.proofs.frame.byte.Reads as byte-reads
 use Rattle.machine.proofs.frame.finish.Reads as finish-reads
 use Rattle.machine.proofs.frame.hand_over.Reads as hand-over-reads
@@ -11,7 +9,7 @@ use Rattle.machine.proofs.step.body.Reads as body-reads
 use Rattle.machine.proofs.step.larger.Reads as larger-reads
 use Rattle.machine.proofs.step.params.Reads as params-reads
 use native.Mathlib.Omega.{arith}
-use mathlib.Core.Path.{_≡_, refl, sym, ap, _∙_}
+use mathlib.Core.Path.{ap, _∙_}
 use Prim.Native.Nat.{_+_, _*_}
 use lib.ListN.{length-set}
 use borrow.Author.Tests.{le-leb, lt-leb}
