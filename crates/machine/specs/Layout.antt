@@ -1,7 +1,8 @@
 -- What each node does to the words: the state of numbers with the work area, and the store. Assumes nothing.
 -- The work area: the slots of frame d at 32 * d; where frame d goes on, and its count of slots, at 1024 + 2 * d.
-use Prim.Native.Nat.{ℕ, zero, suc, _+_, _*_, _-_, _<_, max}
+use Prim.Native.Nat.{ℕ, zero, suc, _+_, _*_, _-_, _≤_, _<_, max}
 use mathlib.Core.List.{List, [], _∷_}
+use mathlib.Core.Logic.{_⊎_}
 use lib.ListN.{length, getD, set}
 use lib.Dec.{ltb, leb, eqb}
 use Rattle.machine.specs.declared.frame.State.{State}
@@ -39,6 +40,14 @@ gathered bytes work base at (suc k) = slotIn bytes work base at ∷ gathered byt
 -- bytes that name slots below 32
 abbrev pub Low : List ℕ → (at k : ℕ) → Type 0
 Low bytes at k = (j : ℕ) → j < k → byteAt bytes (at + j) < 32
+
+-- bytes of which none is below its turn
+abbrev pub Rising : List ℕ → (at k : ℕ) → Type 0
+Rising bytes at k = (j : ℕ) → j < k → j ≤ byteAt bytes (at + j)
+
+-- slots of which none is laid over, from `to` on, before its turn
+abbrev pub Apart : List ℕ → (base at to k : ℕ) → Type 0
+Apart bytes base at to k = (j : ℕ) → j < k → (base + byteAt bytes (at + j) < to) ⊎ (to + j ≤ base + byteAt bytes (at + j))
 
 -- k words from a place on
 unfoldable pub words : List ℕ → (from k : ℕ) → List ℕ

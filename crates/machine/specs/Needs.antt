@@ -1,12 +1,11 @@
 -- What each node's code needs of the words. Assumes nothing.
-use Prim.Native.Nat.{ℕ, zero, suc, _+_, _*_, _-_, _≤_, _<_}
+use Prim.Native.Nat.{ℕ, _+_, _*_, _-_, _≤_, _<_}
 use mathlib.Core.List.{List}
-use mathlib.Core.Path.{_≡_}
 use lib.ListN.{length, getD}
 use Rattle.machine.specs.Layout.{Top, slotIn, conOf, Low}
 use Rattle.machine.specs.Skips.{Skips, SkipsAll, Found, EndNeeds}
-use Rattle.standing.specs.Bytes.{byteAt, markAt, arityIn, paramsIn}
-use Rattle.meaning.specs.Marks.{Mark, markOf}
+use Rattle.standing.specs.Bytes.{byteAt, arityIn, paramsIn}
+use Rattle.meaning.specs.Marks.{Mark}
 
 -- a term that begins at `at` with `size` bytes, in a work area that is large enough
 abbrev pub Room : (size : ℕ) → List ℕ → Top → Type 0

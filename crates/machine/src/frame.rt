@@ -1,11 +1,12 @@
 // A frame of the machine, the cells of the lent store, the state of a run, and a frame's slots in the lent work area.
 // Slot i of frame d lies at 32 * d + i; at 1024 + 2 * d lies the place where frame d goes on, and behind it its count of slots; from
 // 1088 on lie the ends of the terms that were passed over.
+ghost use mathlib.Core.Bool.{true};
 ghost use mathlib.Core.Path.{_≡_};
 ghost use Prim.Native.Nat.{_+_, _*_, _<_, _≤_};
 ghost use lib.ListN.{length, replicate};
 ghost use Rattle.standing.specs.Bytes.{byteAt};
-ghost use Rattle.machine.specs.Layout.{slotIn, top, moved, ended, bound, laid, gathered, words, Low};
+ghost use Rattle.machine.specs.Layout.{slotIn, top, moved, ended, bound, laid, gathered, words, Rising, Apart};
 
 // The top frame: the place of its term, the frames below it, and its slots that are bound.
 pub struct Frame {
@@ -176,18 +177,46 @@ pub(crate) fn lay(work: &mut [u32], to: usize, values: [u32; 8], n: usize)
     }
 }
 
-// The words of n slots, laid above those slots.
+// The words of n slots, laid one by one; none is laid over before it is read.
 pub(crate) fn hand_over(file: &[u8], work: &mut [u32], base: usize, at: usize, to: usize, n: usize)
-    requires { ⌜ (at + n ≤ length (now file)) × (base + 32 ≤ to) × (to + n ≤ length (now work)) × Low (now file) at n ⌝ }
+    requires { ⌜ (at + n ≤ length (now file)) × (base + 256 ≤ length (now work)) × (to + n ≤ length (now work)) × Apart (now file) base at to n ⌝ }
     ensures { λ _. ⌜ now (work .exit) ≡ laid (now (work .entry)) to (gathered (now (file .entry)) (now (work .entry)) base at n) ⌝ }
 {
     let mut j: usize = 0;
     while j < n {
-        let i = byte(file, at + j);
-        let v = work[base + i];
+        let v = slot(file, work, base, at + j);
         work[to + j] = v;
         j += 1;
     }
+}
+
+// Whether no slot that is named from a place on stands before its turn.
+pub(crate) fn rising(file: &[u8], at: usize, n: usize) -> bool
+    requires { ⌜ at + n ≤ length (now file) ⌝ }
+    ensures { λ r. ⌜ (r ≡ true → Rising (now (file .entry)) at n) ⌝ }
+{
+    let mut j: usize = 1;
+    while j < n {
+        if byte(file, at + j) < j {
+            return false;
+        }
+        j += 1;
+    }
+    true
+}
+
+// The words of n slots, laid as the first slots of the same frame.
+pub(crate) fn pass_on(file: &[u8], work: &mut [u32], base: usize, at: usize, n: usize)
+    requires { ⌜ (at + n ≤ length (now file)) × (base + 256 ≤ length (now work)) × (n ≤ 8) ⌝ }
+    ensures { λ _. ⌜ now (work .exit) ≡ laid (now (work .entry)) base (gathered (now (file .entry)) (now (work .entry)) base at n) ⌝ }
+{
+    let in_place = rising(file, at, n);
+    if in_place {
+        hand_over(file, work, base, at, base, n);
+        return;
+    }
+    let values = gather(file, work, base, at, n);
+    lay(work, base, values, n);
 }
 
 // The words of a slice from a place on, laid in the work area.

@@ -7,7 +7,7 @@ ghost use Rattle.meaning.specs.Plain.{arithmetic};
 ghost use Rattle.meaning.specs.Machine.{run};
 ghost use Rattle.meaning.specs.InPlace.{begins};
 ghost use Rattle.standing.specs.Bytes.{markAt, arityIn, paramsIn, bodyIn};
-ghost use Rattle.machine.specs.Layout.{slotIn, top, nuOf, atOf, arOf, gvOf, tlOf, clOf, mkOf, mkStore, conOf, openedOf, opOf, firstOf};
+ghost use Rattle.machine.specs.Layout.{top, nuOf, atOf, arOf, gvOf, tlOf, clOf, mkOf, mkStore, conOf, openedOf, firstOf};
 ghost use Rattle.machine.specs.Skips.{Safe, thenOf, Skips, SkipsAll, Found, EndNeeds, Keeps};
 ghost use Rattle.machine.specs.Needs.{Room, MkNeeds, CallNeeds, OpenNeeds};
 ghost use Rattle.machine.specs.Represents.{Fit, Begun};
@@ -19,11 +19,10 @@ use crate::frame::bind;
 use crate::frame::byte;
 use crate::frame::fill;
 use crate::frame::finish;
-use crate::frame::gather;
 use crate::frame::go_to;
 use crate::frame::hand_over;
-use crate::frame::lay;
 use crate::frame::load;
+use crate::frame::pass_on;
 use crate::frame::slot;
 use crate::frame::wide;
 use meaning::AR;
@@ -167,8 +166,7 @@ fn tail(file: &[u8], decl: &[u32; 128], work: &mut [u32], s: State) -> State
     let base = s.frame.depth * Frame::SLOTS;
     let g = byte(file, at + 2);
     let n = params(decl, g);
-    let values = gather(file, work, base, at + 3, n);
-    lay(work, base, values, n);
+    pass_on(file, work, base, at + 3, n);
     State {
         frame: Frame {
             at: body(decl, g),

@@ -1,12 +1,23 @@
 -- Words laid from a place on: where they are, and the loops that lay them one by one. Assumes nothing.
-use Prim.Native.Nat.{ℕ, zero, suc, _+_, _*_, _-_, _≤_, _<_}
+use Prim.Native.Nat.{ℕ, zero, suc, _+_, _-_, _≤_, _<_}
+use mathlib.Core.Bool.{Bool, true, false}
 use mathlib.Core.List.{List, [], _∷_}
 use mathlib.Core.Path.{_≡_, refl, sym, ap, _∙_, subst}
+use mathlib.Core.Logic.{_⊎_, inl, inr}
 use native.Mathlib.Omega.{arith}
 use lib.ListN.{length, getD, set, drop, length-set, drop-of-length-le, replicate}
+use lib.Dec.{eqb}
+use borrow.Author.Tests.{eqb-true, eqb-false}
 use lib.Seq.{getD-set-same, getD-set-other, drop-set-lt, drop-cons}
-use Rattle.machine.specs.Layout.{laid, words, gathered, slotIn, Low}
+use Rattle.machine.specs.Layout.{laid, words, gathered, slotIn, Low, Rising, Apart}
 use Rattle.standing.specs.Bytes.{byteAt}
+
+eqb? : (i j : ℕ) → (i ≡ j) ⊎ (i ≡ j → ⊥)
+eqb? i j = go (eqb i j) refl
+  where
+    go : (x : Bool) → eqb i j ≡ x → (i ≡ j) ⊎ (i ≡ j → ⊥)
+    go true e = inl (eqb-true i j e)
+    go false e = inr (eqb-false i j e)
 
 -- words that are laid
 pub laid-length : (l : List ℕ) (p : ℕ) (ws : List ℕ) → length (laid l p ws) ≡ length l
@@ -81,15 +92,35 @@ pub end-gathered : (X m bytes work : List ℕ) (base to at n j : ℕ) → n ≤ 
 unfolding laid gathered
 end-gathered X m bytes work base to at n j h x = let a : n - j ≡ 0 = omega arith in sym (x ∙ ap (λ k. laid m (to + j) (gathered bytes work base (at + j) k)) a)
 
--- slots laid above themselves: what lies below is as it was
-pub turn-handed : (X m bytes work : List ℕ) (base to at n j b : ℕ) → j < n → b ≡ byteAt bytes (at + j) → base + b < to → ((q : ℕ) → q < to → getD m q 0 ≡ getD work q 0)
+-- slots laid in the same list: what is not laid over yet is as it was
+pub turn-handed : (X m bytes work : List ℕ) (base to at n j v : ℕ) → j < n → v ≡ slotIn bytes m base (at + j)
+    → (base + byteAt bytes (at + j) < to) ⊎ (to + j ≤ base + byteAt bytes (at + j)) → ((q : ℕ) → (q < to) ⊎ (to + j ≤ q) → getD m q 0 ≡ getD work q 0)
     → X ≡ laid m (to + j) (gathered bytes work base (at + j) (n - j))
-    → (X ≡ laid (set m (to + j) (getD m (base + b) 0)) (to + (j + 1)) (gathered bytes work base (at + (j + 1)) (n - (j + 1))))
-    × ((q : ℕ) → q < to → getD (set m (to + j) (getD m (base + b) 0)) q 0 ≡ getD work q 0)
-turn-handed X m bytes work base to at n j b h e l s x = (
-  turn-gathered X m bytes work base to at n j (to + j) (getD m (base + b) 0) h refl (s (base + b) l ∙ ap (λ i. getD work (base + i) 0) e) x,
-  λ q k. getD-set-other m (to + j) q (getD m (base + b) 0) 0 (λ z. omega arith) ∙ s q k,
+    → (X ≡ laid (set m (to + j) v) (to + (j + 1)) (gathered bytes work base (at + (j + 1)) (n - (j + 1))))
+    × ((q : ℕ) → (q < to) ⊎ (to + (j + 1) ≤ q) → getD (set m (to + j) v) q 0 ≡ getD work q 0)
+turn-handed X m bytes work base to at n j v h e l s x = (
+  turn-gathered X m bytes work base to at n j (to + j) v h refl (e ∙ s (base + byteAt bytes (at + j)) l) x,
+  λ q k. elim k [
+    | inl y ↦ getD-set-other m (to + j) q v 0 (λ z. omega arith) ∙ s q (inl y)
+    | inr y ↦ getD-set-other m (to + j) q v 0 (λ z. omega arith) ∙ s q (inr (let z : to + j ≤ q = omega arith in z))
+  ],
 )
+
+pub low-apart : (bytes : List ℕ) (base at to n : ℕ) → base + 32 ≤ to → Low bytes at n → Apart bytes base at to n
+low-apart bytes base at to n h l j k = inl (let z = l j k in let y : base + byteAt bytes (at + j) < to = omega arith in y)
+
+pub rising-apart : (bytes : List ℕ) (base at n : ℕ) → Rising bytes at n → Apart bytes base at base n
+rising-apart bytes base at n l j k = inr (let z = l j k in let y : base + j ≤ base + byteAt bytes (at + j) = omega arith in y)
+
+pub rises : (bytes : List ℕ) (at j : ℕ) → Rising bytes at j → j ≤ byteAt bytes (at + j) → Rising bytes at (j + 1)
+rises bytes at j r h i l =
+    elim (eqb? i j) [
+      | inl e ↦ subst (λ k. k ≤ byteAt bytes (at + k)) (sym e) h
+      | inr e ↦ r i (omega arith)
+    ]
+
+pub not-so : false ≡ true → ⊥
+not-so e = let z : _≡_ {A = ℕ} 0 1 = cc in omega arith
 
 gathered-same : (bytes work work′ : List ℕ) (base at n : ℕ) → ((j : ℕ) → j < n → slotIn bytes work′ base (at + j) ≡ slotIn bytes work base (at + j))
     → gathered bytes work′ base at n ≡ gathered bytes work base at n

@@ -1,5 +1,5 @@
 -- What the work area keeps of the terms that were passed over. Assumes nothing.
-use Prim.Native.Nat.{ℕ, zero, suc, _+_, _*_, _-_, _/_, _%_, _≤_, _<_}
+use Prim.Native.Nat.{ℕ, _+_, _*_, _-_, _/_, _%_, _≤_, _<_}
 use mathlib.Core.Bool.{Bool, true, false}
 use mathlib.Core.List.{List}
 use mathlib.Core.Path.{_≡_, refl, sym, ap, _∙_, subst}
@@ -9,7 +9,7 @@ use lib.Seq.{getD-set-same, getD-set-other, getD-drop, drop-set-lt}
 use lib.Dec.{eqb}
 use borrow.Author.Tests.{eqb-true, eqb-false}
 use Rattle.machine.specs.Skips.{Skips, Known, EndNeeds, Keeps}
-use Rattle.machine.proofs.step.Skipping.{skips-one, skips-safe}
+use Rattle.machine.proofs.step.Skipping.{skips-safe}
 
 module _ (bytes decl : List ℕ) where
   pub keeps-same : {work : List ℕ} → Known bytes decl work → Keeps bytes decl work work

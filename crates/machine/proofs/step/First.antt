@@ -1,21 +1,20 @@
 -- The words of a start that is not refused fit for the defined first state. Assumes nothing.
-use Prim.Native.Nat.{ℕ, zero, suc, _+_, _*_, _≤_, _<_}
+use Prim.Native.Nat.{ℕ, _≤_}
 use mathlib.Core.List.{List, [], _∷_, map}
 use mathlib.Core.Path.{_≡_, refl, sym, ap, _∙_, subst}
 use native.Mathlib.Omega.{arith}
-use lib.ListN.{length, getD, drop}
-use Rattle.meaning.specs.Syntax.{Mode, File}
+use lib.ListN.{length, drop}
+use Rattle.meaning.specs.Syntax.{Mode}
 use Rattle.meaning.specs.Ownership.{bind, kind-of}
-use Rattle.meaning.specs.Machine.{Held, Store, held, passed, state, function-of, body-of, run, Answer}
+use Rattle.meaning.specs.Machine.{Held, held, state, function-of, body-of, run, Answer}
 use Rattle.meaning.specs.Start.{begin}
 use Rattle.meaning.specs.InPlace.{begins}
 use Rattle.meaning.specs.Decode.{plain-args}
-use Rattle.theory.proofs.Sim.{Accepted}
 use Rattle.theory.proofs.Stack.{Whole, bottom}
 use Rattle.theory.proofs.Wellread.{accepted-well}
 use Rattle.standing.specs.Stands.{Stands}
-use Rattle.machine.specs.Layout.{Top, top, going, laid, firstOf}
-use Rattle.machine.specs.Represents.{Agrees, Words, Represents, Fit, Begun}
+use Rattle.machine.specs.Layout.{Top, laid, firstOf}
+use Rattle.machine.specs.Represents.{Agrees, Represents, Fit, Begun}
 use Rattle.machine.proofs.frame.Laid.{laid-at, laid-length, laid-after, laid-behind}
 use Rattle.machine.proofs.step.Words.{words-make}
 use Rattle.machine.proofs.step.Laying.{Pairs, both, pairs-length, pairs-at}

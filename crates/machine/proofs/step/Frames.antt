@@ -1,6 +1,6 @@
 -- TL, CL, MK, OP and LK: their words stand for the defined step. Assumes nothing.
-use Prim.Native.Nat.{ℕ, zero, suc, _+_, _*_, _-_, _≤_, _<_, max}
-use mathlib.Core.List.{List, [], _∷_, _++_, map, append-nil}
+use Prim.Native.Nat.{ℕ, suc, _+_, _*_, _-_, _≤_, _<_, max}
+use mathlib.Core.List.{List, [], _∷_, _++_, map}
 use mathlib.Core.Bool.{Bool, true, false}
 use mathlib.Core.Option.{Option, none, some}
 use mathlib.Core.Path.{_≡_, refl, sym, ap, _∙_, subst}
@@ -8,27 +8,25 @@ use mathlib.Core.Logic.{_⊎_, inl, inr}
 use native.Mathlib.Omega.{arith}
 use lib.ListN.{length, getD, set, length-set}
 use lib.Seq.{getD-set-same, getD-set-other}
-use lib.Dec.{ltb, leb, eqb}
-use borrow.Author.Tests.{ltb-true, ltb-false, lt-ltb, le-ltb, le-leb, lt-leb, eq-eqb, ne-eqb}
-use Rattle.machine.specs.Layout.{Top, top, going, ended, bound, laid, gathered, words, slotIn, tlOf, clOf, mkOf, mkStore, conOf, opOf, openedOf}
-use Rattle.machine.specs.Represents.{Agrees, Words, Waits, Saved, Represents, After}
+use lib.Dec.{ltb}
+use borrow.Author.Tests.{ltb-true, ltb-false, le-leb, lt-leb, ne-eqb}
+use Rattle.machine.specs.Layout.{Top, top, bound, laid, gathered, words, slotIn, tlOf, clOf, mkOf, mkStore, conOf, opOf, openedOf}
+use Rattle.machine.specs.Represents.{Agrees, Waits, Saved, Represents, After}
 use Rattle.machine.specs.Steps.{StepsAt, named}
-use Rattle.machine.specs.Skips.{Found}
 use Rattle.machine.proofs.frame.Laid.{words-length, laid-length, laid-before, laid-after, laid-at}
 use Rattle.machine.proofs.step.Words.{words-make, words-keep, words-give-up, words-without, without-length, laid-write, gathered-map, saved-keep, bound-represents, keeps-represents}
 use Rattle.machine.proofs.step.Laying.{Pairs, both, pairs-length, pairs-at, pairs-append, opened-pairs, looked-pairs, laid-snoc, held-owned, held-lent, argued-pairs, lays}
 use Rattle.machine.proofs.step.Skipping.{Taken, found-branch}
-use Rattle.machine.proofs.step.Nodes.{Rep, Goal, moves}
+use Rattle.machine.proofs.step.Nodes.{Rep, Goal}
 use Rattle.meaning.specs.Syntax.{Sort, Mode, Signature, Term, Branches, Constructor, File}
 use Rattle.meaning.specs.Syntax as S
-use Rattle.meaning.specs.Outcome.{ok, require}
 use Rattle.meaning.specs.Ownership.{Kind, Slots, Want, take, check, pass, done, same-sort, mode-owned}
 use Rattle.meaning.specs.Plain.{Value, place-of, branch}
-use Rattle.meaning.specs.Machine.{Held, Frame, Store, Step, held, word, taken, give-up, argued, without, state, write, step, cell, word-at, function-of, body-of, fields-of, credit-cell, constructor-of, fields, opened, looked, credit-for}
+use Rattle.meaning.specs.Machine.{Held, Frame, Store, Step, held, word, taken, give-up, argued, without, state, write, step, cell, function-of, body-of, fields-of, credit-cell, constructor-of, fields, opened, looked, credit-for}
 use Rattle.meaning.specs.Machine as M
 use Rattle.meaning.specs.Reading.{credits}
 use Rattle.theory.proofs.Gather.{used-up}
-use Rattle.theory.proofs.Rep.{Tree, Holds, Match}
+use Rattle.theory.proofs.Rep.{Tree, Holds}
 use Rattle.theory.proofs.Handing.{at-kind, credit-taken}
 use Rattle.theory.proofs.Taking.{take-inv, steps-ok, require-then}
 use Rattle.theory.proofs.Wants.{took-credit, took-owned, took-looked}

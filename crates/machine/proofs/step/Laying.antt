@@ -1,21 +1,20 @@
 -- Several words at once: what they are of, and where they are laid. Assumes nothing.
-use Prim.Native.Nat.{ℕ, zero, suc, _+_, _*_, _-_, _≤_, _<_, max}
+use Prim.Native.Nat.{ℕ, zero, suc, _+_, _*_, _≤_, _<_}
 use mathlib.Core.List.{List, [], _∷_, _++_, map}
-use mathlib.Core.Bool.{Bool, true, false}
+use mathlib.Core.Bool.{false}
 use mathlib.Core.Path.{_≡_, refl, sym, ap, _∙_, subst}
-use mathlib.Core.Logic.{_⊎_, inl, inr}
+use mathlib.Core.Logic.{inl, inr}
 use native.Mathlib.Omega.{arith}
 use lib.ListN.{length, getD, set, length-set, List·getD-eq-default}
-use lib.Seq.{getD-set-same, getD-set-other}
 use Rattle.machine.specs.Layout.{Top, top, going, laid, words, Low}
 use Rattle.machine.specs.Represents.{Agrees, Words, Saved, Represents}
 use Rattle.machine.proofs.frame.Laid.{laid-length, laid-before, laid-after, laid-at}
-use Rattle.machine.proofs.step.Words.{side, words-make, words-keep, words-more, saved-keep, words-give-up}
+use Rattle.machine.proofs.step.Words.{side, words-more, saved-keep, words-give-up}
 use Rattle.meaning.specs.Syntax.{Sort, Mode, Term, Constructor, File}
 use Rattle.meaning.specs.Outcome.{ok}
 use Rattle.meaning.specs.Ownership.{Kind, Slots, Want, take, pass, member}
 use Rattle.meaning.specs.Plain.{Value, place-of}
-use Rattle.meaning.specs.Machine.{Held, Frame, Store, held, word, taken, give-up, argued, state, fields, opened, looked, word-at}
+use Rattle.meaning.specs.Machine.{Held, Frame, Store, held, word, taken, give-up, argued, state, fields, opened, looked}
 use Rattle.theory.proofs.Gather.{used-up}
 use Rattle.theory.proofs.Rep.{Holds, Match}
 use Rattle.theory.proofs.Handing.{at-kind, owned-taken}

@@ -1,10 +1,9 @@
 -- The mark that its number in the table names, and the byte after a record's fixed fields. Assumes nothing.
-use Prim.Native.Nat.{ℕ, zero, suc, _+_, _≤_}
+use Prim.Native.Nat.{ℕ, _+_, _≤_}
 use mathlib.Core.List.{List}
 use mathlib.Core.Path.{_≡_, refl, sym, ap, _∙_}
 use native.Mathlib.Omega.{arith}
 use lib.ListN.{getD}
-use Rattle.machine.specs.declared.step.Then.{Then}
 use Rattle.machine.specs.declared.step.Then.the-variants.{Leaf}
 use Rattle.machine.specs.Layout.{Top}
 use Rattle.machine.specs.Skips.{past, thenAt}

@@ -1,28 +1,27 @@
 -- What fits has what each node's code needs. Assumes nothing.
-use Prim.Native.Nat.{ℕ, zero, suc, _+_, _*_, _-_, _≤_, _<_}
-use mathlib.Core.List.{List, [], _∷_, map}
-use mathlib.Core.Bool.{Bool, true, false}
+use Prim.Native.Nat.{ℕ, _+_, _*_, _-_, _≤_, _<_}
+use mathlib.Core.List.{List, [], _∷_}
+use mathlib.Core.Bool.{false}
 use mathlib.Core.Path.{_≡_, refl, sym, ap, _∙_, subst}
-use mathlib.Core.Logic.{_⊎_, inl, inr}
+use mathlib.Core.Logic.{inl, inr}
 use native.Mathlib.Omega.{arith}
 use lib.ListN.{length, getD}
-use lib.Dec.{ltb}
 use borrow.Author.Tests.{ltb-true}
 use Rattle.machine.specs.Layout.{Top, slotIn, conOf, Low}
-use Rattle.machine.specs.Represents.{Agrees, Represents, Fit, Saved, Waits}
-use Rattle.machine.specs.Skips.{Skips, SkipsAll, Found, Known}
+use Rattle.machine.specs.Represents.{Represents, Fit}
+use Rattle.machine.specs.Skips.{Skips, Found, Known}
 use Rattle.machine.specs.Needs.{Room, NeedsAt, OpenNeeds, CallNeeds, MkNeeds}
 use Rattle.machine.specs.Steps.{Steps, StepsAt, Opened, creditOf}
 use Rattle.machine.proofs.step.Skipping.{Taken, found-branch, stands-skips, each-skips, skips-safe, stands-ends, each-ends}
 use Rattle.machine.proofs.step.Laying.{held-owned, held-lent, All-below, listed-low, argued-below}
 use Rattle.machine.proofs.step.Frames.{Shape, atom, cell-of, owned-shape, lent-shape, con-same, credit-word}
-use Rattle.meaning.specs.Syntax.{Sort, Signature, Term, Branches, Constructor, File}
+use Rattle.meaning.specs.Syntax.{Sort, Term, Branches, Constructor, File}
 use Rattle.meaning.specs.Syntax as S
 use Rattle.meaning.specs.Ownership.{Kind, Slots, Want, take, check, pass, done, same-sort}
 use Rattle.meaning.specs.Plain.{Value, place-of}
 use Rattle.meaning.specs.Reading.{credits}
-use Rattle.meaning.specs.Machine.{Held, Frame, Store, held, word, state, cell, fields-of, function-of, credit-cell, constructor-of}
-use Rattle.theory.proofs.Rep.{Holds, Match}
+use Rattle.meaning.specs.Machine.{Held, Frame, Store, held, word, state, cell, fields-of, function-of, credit-cell}
+use Rattle.theory.proofs.Rep.{Holds}
 use Rattle.theory.proofs.Handing.{at-kind}
 use Rattle.theory.proofs.Taking.{take-inv, steps-ok, require-then}
 use Rattle.theory.proofs.Wants.{took-credit, took-owned, took-looked}

@@ -1,36 +1,33 @@
 -- Each node's words stand for the defined step. Assumes nothing.
 use Prim.Native.Nat.{ℕ, zero, suc, _+_, _*_, _-_, _≤_, _<_, max}
-use mathlib.Core.List.{List, [], _∷_, _++_, map}
-use mathlib.Core.Bool.{Bool, true, false}
+use mathlib.Core.List.{List, [], _∷_, _++_}
+use mathlib.Core.Bool.{false}
 use mathlib.Core.Path.{_≡_, refl, sym, ap, _∙_, subst}
-use mathlib.Core.Logic.{_⊎_, inl, inr}
 use native.Mathlib.Omega.{arith}
-use lib.ListN.{length, getD, set, length-set}
-use lib.Dec.{ltb, eqb}
-use borrow.Author.Tests.{ltb-true, ltb-false, eq-eqb, ne-eqb}
-use Rattle.machine.specs.Layout.{below, Top, top, going, moved, bound, laid, gathered, words, slotIn, nuOf, atOf, arOf, gvOf}
-use Rattle.machine.specs.Represents.{Agrees, Words, Waits, Saved, Represents, Fit, After}
-use Rattle.machine.specs.Steps.{Steps, StepsAt}
+use lib.ListN.{length}
+use borrow.Author.Tests.{eq-eqb, ne-eqb}
+use Rattle.machine.specs.Layout.{below, Top, top, going, moved, bound, words, slotIn, nuOf, atOf, arOf, gvOf}
+use Rattle.machine.specs.Represents.{Agrees, Represents, After}
+use Rattle.machine.specs.Steps.{StepsAt}
 use Rattle.machine.specs.Skips.{Skips}
 use Rattle.machine.proofs.step.Skipping.{stands-skips, skips-one}
 use Rattle.machine.proofs.step.Words.{bound-represents, keeps-represents}
-use Rattle.meaning.specs.Syntax.{Sort, Mode, Term, Branches, File}
+use Rattle.meaning.specs.Syntax.{Sort, Term, File}
 use Rattle.meaning.specs.Syntax as S
 use Rattle.meaning.specs.Outcome.{ok}
-use Rattle.meaning.specs.Ownership.{kind-owned, Kind, Slots, Want, take, check, pass}
+use Rattle.meaning.specs.Ownership.{kind-owned, Kind, Slots, Want, take, check}
 use Rattle.meaning.specs.Plain.{Value, place-of, arithmetic}
-use Rattle.meaning.specs.Machine.{Held, Frame, Store, Step, held, word, taken, give-up, argued, without, state, write, step, cell}
+use Rattle.meaning.specs.Machine.{Held, Frame, Store, Step, held, word, state, step}
 use Rattle.meaning.specs.Machine as M
 use Rattle.theory.proofs.Rep.{Holds, Match}
 use Rattle.theory.proofs.Handing.{at-kind}
 use Rattle.theory.proofs.Taking.{take-inv, steps-ok}
 use Rattle.theory.proofs.Wants.{took-number}
 use Rattle.theory.proofs.Sim.{Ready, give}
-use Rattle.theory.proofs.Stack.{Whole}
-use Rattle.standing.specs.Bytes.{byteAt, markAt}
+use Rattle.standing.specs.Bytes.{byteAt}
 use Rattle.meaning.specs.Choice.{pick}
-use Rattle.meaning.specs.Marks.{markOf, Mark}
-use Rattle.standing.specs.Stands.{Listed, Stands}
+use Rattle.meaning.specs.Marks.{Mark}
+use Rattle.standing.specs.Stands.{Stands}
 use Rattle.standing.specs.Table.{Declared}
 
 module _ (file : File) (budget : ℕ) (bytes decl : List ℕ) where

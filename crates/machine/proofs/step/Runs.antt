@@ -1,16 +1,16 @@
 -- A run of the words is the defined run. Assumes nothing.
-use Prim.Native.Nat.{ℕ, zero, suc, _+_, _*_, _-_, _≤_, _<_, max}
+use Prim.Native.Nat.{ℕ, zero, suc, _+_, _-_, _≤_, _<_, max}
 use mathlib.Core.Bool.{Bool, true, false}
 use mathlib.Core.List.{List, [], _∷_}
 use mathlib.Core.Option.{Option, none, some}
 use mathlib.Core.Path.{_≡_, refl, sym, ap, _∙_, subst}
-use mathlib.Core.Logic.{_⊎_, inl, inr}
+use mathlib.Core.Logic.{inl, inr}
 use native.Mathlib.Omega.{arith}
 use lib.ListN.{length}
-use lib.Dec.{ltb, eqb}
+use lib.Dec.{ltb}
 use borrow.Author.Tests.{eq-eqb, ne-eqb}
 use Rattle.machine.specs.Layout.{Top}
-use Rattle.machine.specs.Represents.{Represents, After, Fit}
+use Rattle.machine.specs.Represents.{After, Fit}
 use Rattle.machine.specs.Steps.{Steps, placeOf}
 use Rattle.machine.proofs.step.Whole.{fit-sim, fit-next}
 use Rattle.machine.proofs.step.Needed.{fit-mark}

@@ -1,24 +1,20 @@
 -- A term that stands is passed over by its marks; the byte after it is one only. Assumes nothing.
-use Prim.Native.Nat.{ℕ, zero, suc, _+_, _*_, _-_, _≤_, _<_}
-use mathlib.Core.List.{List, [], _∷_}
-use mathlib.Core.Bool.{Bool, true, false}
-use mathlib.Core.Option.{Option, none, some}
+use Prim.Native.Nat.{ℕ, suc, _+_, _-_, _≤_, _<_}
+use mathlib.Core.List.{List, []}
+use mathlib.Core.Option.{none, some}
 use mathlib.Core.Path.{_≡_, refl, sym, ap, _∙_, subst}
 use mathlib.Core.Logic.{_⊎_, inl, inr}
 use native.Mathlib.Omega.{arith}
 use lib.ListN.{length, getD}
-use lib.Dec.{eqb}
 use borrow.Author.Tests.{eq-eqb, ne-eqb}
-use Rattle.machine.specs.declared.step.Then.{Then}
 use Rattle.machine.specs.declared.step.Then.the-variants.{Leaf, One, Two, Many}
 use Rattle.machine.specs.Skips.{past, thenOf, thenAt, Safe, SafeAt, Skips, SkipsAll, Found}
 use Rattle.meaning.specs.Syntax.{Term, Branches, Constructor, File}
-use Rattle.meaning.specs.Syntax as S
 use Rattle.meaning.specs.Plain.{place-of, branch}
 use Rattle.standing.specs.Bytes.{byteAt, markAt, arityIn, paramsIn}
 use Rattle.meaning.specs.Marks.{rowAt, numberOf, markOf, Mark}
 use Rattle.machine.proofs.step.Marked.{past-is}
-use Rattle.standing.specs.Stands.{Stands, Each, Listed, count}
+use Rattle.standing.specs.Stands.{Stands, Each, count}
 use Rattle.standing.specs.Table.{Declared}
 
 module _ (bytes decl : List ℕ) where

@@ -1,7 +1,7 @@
 -- A step of the words is the defined step, and its end fits again. Assumes nothing.
-use Prim.Native.Nat.{ℕ, zero, suc, _+_, _*_, _-_, _≤_, _<_, max}
-use mathlib.Core.List.{List, [], _∷_}
-use mathlib.Core.Path.{_≡_, refl, sym, ap, _∙_, subst}
+use Prim.Native.Nat.{ℕ, suc, _≤_}
+use mathlib.Core.List.{List}
+use mathlib.Core.Path.{_≡_, refl, ap, _∙_, subst}
 use native.Mathlib.Omega.{arith}
 use lib.ListN.{length}
 use Rattle.machine.specs.Layout.{Top}
@@ -14,13 +14,12 @@ use Rattle.meaning.specs.Syntax.{Sort, Term, File}
 use Rattle.meaning.specs.Syntax as S
 use Rattle.meaning.specs.Plain.{Value}
 use Rattle.meaning.specs.Ownership.{Slots}
-use Rattle.meaning.specs.Machine.{Held, Frame, Store, Step, state, step}
+use Rattle.meaning.specs.Machine.{Held, Frame, Store, state, step}
 use Rattle.meaning.specs.Machine as M
 use Rattle.theory.proofs.Sim.{Ready}
-use Rattle.theory.proofs.Stack.{Whole, keep, Kept}
+use Rattle.theory.proofs.Stack.{keep, Kept}
 use Rattle.standing.specs.Bytes.{markAt}
 use Rattle.meaning.specs.Marks.{markOf, Mark}
-use Rattle.meaning.specs.Choice.{pick}
 use Rattle.standing.specs.Stands.{Stands}
 use Rattle.standing.specs.Table.{Declared}
 

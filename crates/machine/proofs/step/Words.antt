@@ -1,5 +1,5 @@
 -- Laws of the words of a work area. Assumes nothing.
-use Prim.Native.Nat.{ℕ, zero, suc, _+_, _*_, _-_, _≤_, _<_, max}
+use Prim.Native.Nat.{ℕ, zero, suc, _+_, _*_, _-_, _≤_, _<_}
 use mathlib.Core.List.{List, [], _∷_, _++_, map}
 use mathlib.Core.Bool.{Bool, true, false}
 use mathlib.Core.Path.{_≡_, refl, sym, ap, _∙_, subst}
@@ -9,14 +9,12 @@ use lib.ListN.{length, getD, set, length-set, List·getD-append, List·getD-eq-d
 use lib.Seq.{getD-set-same, getD-set-other, getD-append-add}
 use lib.Dec.{ltb}
 use borrow.Author.Tests.{ltb-true, ltb-false}
-use Rattle.machine.proofs.frame.Laid.{laid-before}
-use Rattle.machine.specs.Layout.{Top, top, going, bound, laid, gathered, words, slotIn}
-use Rattle.machine.specs.Represents.{Agrees, Words, Waits, Saved, Represents}
+use Rattle.machine.specs.Layout.{Top, top, bound, laid, gathered, words}
+use Rattle.machine.specs.Represents.{Agrees, Words, Saved, Represents}
 use Rattle.meaning.specs.Syntax.{Mode, Term, File}
 use Rattle.meaning.specs.Plain.{place-of}
 use Rattle.meaning.specs.Machine as M
-use Rattle.meaning.specs.Machine.{Held, Frame, Store, held, word, taken, give-up, argued, without, state, write}
-use Rattle.standing.specs.Bytes.{byteAt}
+use Rattle.meaning.specs.Machine.{Held, Frame, Store, held, taken, give-up, without, state, write}
 use Rattle.standing.specs.Stands.{Listed, Stands}
 
 pub side : (i n : ℕ) → (i < n) ⊎ (n ≤ i)

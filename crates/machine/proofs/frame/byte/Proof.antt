@@ -2,8 +2,6 @@
 use borrow.Author.Needs.{needs}
 use Rattle.machine.proofs.frame.byte.Statement.{statement}
 use Rattle.machine.proofs.frame.byte.Tie as tie
-use Rattle.machine.proofs.frame.byte.Reads as reads
-use Rattle.machine.proofs.frame.byte.Lts as lts
 use native.Mathlib.Omega.{arith}
 use mathlib.Core.Path.{refl}
 

@@ -1,11 +1,9 @@
 -- The proof of `fill`. Assumes nothing.
 use Rattle.machine.proofs.frame.fill.Statement.{statement}
 use Rattle.machine.proofs.frame.fill.Tie as tie
-use Rattle.machine.proofs.frame.fill.Reads as reads
-use Rattle.machine.proofs.frame.fill.Lts as lts
 use Rattle.machine.proofs.frame.slot.Reads as slot-reads
-use Prim.Native.Nat.{ℕ, suc, _+_, _-_, _≤_, _<_}
-use mathlib.Core.Path.{_≡_, refl, sym, ap, _∙_}
+use Prim.Native.Nat.{_+_, _-_, _≤_}
+use mathlib.Core.Path.{_≡_, refl}
 use native.Mathlib.Omega.{arith}
 use lib.ListN.{length, length-set}
 use Rattle.machine.specs.Layout.{laid, gathered}

@@ -1,13 +1,10 @@
 -- The proof of `gather`. Assumes nothing.
 use Rattle.machine.proofs.frame.gather.Statement.{statement}
 use Rattle.machine.proofs.frame.gather.Tie as tie
-use Rattle.machine.proofs.frame.gather.Reads as reads
-use Rattle.machine.proofs.frame.gather.Lts as lts
 use Rattle.machine.proofs.frame.slot.Reads as slot-reads
-use Prim.Native.Nat.{ℕ, suc, _+_, _-_, _≤_, _<_}
-use mathlib.Core.Path.{_≡_, refl, sym, ap, _∙_}
+use Prim.Native.Nat.{_+_, _-_, _≤_}
+use mathlib.Core.Path.{_≡_}
 use native.Mathlib.Omega.{arith}
-use lib.ListN.{length, length-set}
 use Rattle.machine.specs.Layout.{laid, gathered}
 use Rattle.machine.proofs.frame.Laid.{start-gathered, turn-gathered, end-gathered}
 

@@ -1,18 +1,17 @@
 -- The proof of `hand_over`. Assumes nothing.
 use Rattle.machine.proofs.frame.hand_over.Statement.{statement}
 use Rattle.machine.proofs.frame.hand_over.Tie as tie
-use Rattle.machine.proofs.frame.hand_over.Reads as reads
-use Rattle.machine.proofs.frame.hand_over.Lts as lts
-use Rattle.machine.proofs.frame.byte.Reads as byte-reads
-use Prim.Native.Nat.{ℕ, suc, _+_, _-_, _≤_, _<_}
-use mathlib.Core.Path.{_≡_, refl, sym, ap, _∙_}
+use Rattle.machine.proofs.frame.slot.Reads as slot-reads
+use Prim.Native.Nat.{ℕ, _+_, _-_, _≤_, _<_}
+use mathlib.Core.Logic.{_⊎_}
+use mathlib.Core.Path.{_≡_, refl}
 use native.Mathlib.Omega.{arith}
 use lib.ListN.{length, getD, length-set}
 use Rattle.machine.specs.Layout.{laid, gathered}
 use Rattle.machine.proofs.frame.Laid.{start-gathered, turn-handed, end-gathered}
 
 abbrev Inv-loop : tie.InvT-loop
-Inv-loop file work₀ base at to n j₀ work j = (j ≤ n) × (length work ≡ length work₀) × (laid work₀ to (gathered file work₀ base at n) ≡ laid work (to + j) (gathered file work₀ base (at + j) (n - j))) × ((q : ℕ) → q < to → getD work q 0 ≡ getD work₀ q 0)
+Inv-loop file work₀ base at to n j₀ work j = (j ≤ n) × (length work ≡ length work₀) × (laid work₀ to (gathered file work₀ base at n) ≡ laid work (to + j) (gathered file work₀ base (at + j) (n - j))) × ((q : ℕ) → (q < to) ⊎ (to + j ≤ q) → getD work q 0 ≡ getD work₀ q 0)
 
 abbrev μ-loop : tie.MeasureT-loop
 μ-loop file work₀ base at to n j₀ work j = n - j
@@ -20,20 +19,11 @@ abbrev μ-loop : tie.MeasureT-loop
 loop-holds : tie.Need-loop-holds Inv-loop μ-loop
 loop-holds c = (omega arith, refl, start-gathered _ _ _ _ _ _ _, λ q l. refl)
 
-add-byte : tie.Need-add-byte Inv-loop μ-loop
-add-byte c = omega arith
+add-slot : tie.Need-add-slot Inv-loop μ-loop
+add-slot c = omega arith
 
-byte-requires : tie.Need-byte-requires Inv-loop μ-loop
-byte-requires c κs = omega arith
-
-add-v : tie.Need-add-v Inv-loop μ-loop
-add-v c = omega (arith, c .byte .ensures .0, c .before .before .before .before .before .pre .3 _ (c .before .loop-test .taken))
-
-mul-v : tie.Need-mul-v Inv-loop μ-loop
-mul-v c = omega (arith, c .byte .ensures .0, c .before .before .before .before .before .pre .3 _ (c .before .loop-test .taken))
-
-slice-read-v : tie.Need-slice-read-v Inv-loop μ-loop
-slice-read-v c = omega (arith, c .before .byte .ensures .0, c .before .before .before .before .before .before .pre .3 _ (c .before .before .loop-test .taken))
+slot-requires : tie.Need-slot-requires Inv-loop μ-loop
+slot-requires c κs = omega arith
 
 add-work : tie.Need-add-work Inv-loop μ-loop
 add-work c = omega arith
@@ -51,7 +41,7 @@ loop-less : tie.Need-loop-less Inv-loop μ-loop
 loop-less c = omega arith
 
 loop-again : tie.Need-loop-again Inv-loop μ-loop
-loop-again c = let t = turn-handed _ _ _ _ _ _ _ _ _ _ (c .before .before .loop-test .taken) (c .before .byte .ensures .0) (omega (arith, c .before .byte .ensures .0, c .before .before .before .before .before .before .pre .3 _ (c .before .before .loop-test .taken))) (c .before .before .before .loop .inv .3) (c .before .before .before .loop .inv .2) in (omega arith, simp length-set (c .before .before .before .loop .inv .1), t .0, t .1)
+loop-again c = let t = turn-handed _ _ _ _ _ _ _ _ _ _ (c .before .before .loop-test .taken) (c .slot .ensures) (c .before .before .before .before .before .before .pre .3 _ (c .before .before .loop-test .taken)) (c .before .before .before .loop .inv .3) (c .before .before .before .loop .inv .2) in (omega arith, simp length-set (c .before .before .before .loop .inv .1), t .0, t .1)
 
 same-length : tie.Need-same-length Inv-loop μ-loop
 same-length c = c .before .loop .inv .1
@@ -66,11 +56,8 @@ hand-over-spec =
     Inv-loop
     μ-loop
     loop-holds
-    add-byte
-    byte-requires
-    add-v
-    mul-v
-    slice-read-v
+    add-slot
+    slot-requires
     add-work
     mul-work
     slice-write-work

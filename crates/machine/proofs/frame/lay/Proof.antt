@@ -1,10 +1,8 @@
 -- The proof of `lay`. Assumes nothing.
 use Rattle.machine.proofs.frame.lay.Statement.{statement}
 use Rattle.machine.proofs.frame.lay.Tie as tie
-use Rattle.machine.proofs.frame.lay.Reads as reads
-use Rattle.machine.proofs.frame.lay.Lts as lts
-use Prim.Native.Nat.{ℕ, suc, _+_, _-_, _≤_, _<_}
-use mathlib.Core.Path.{_≡_, refl, sym, ap, _∙_}
+use Prim.Native.Nat.{_+_, _-_, _≤_}
+use mathlib.Core.Path.{_≡_, refl}
 use native.Mathlib.Omega.{arith}
 use lib.ListN.{length, length-set}
 use Rattle.machine.specs.Layout.{laid, words}

@@ -13,11 +13,11 @@ use Rattle.machine.proofs.step.+skip_branches+skip_term.{statement}
 use Rattle.machine.proofs.step.+skip_branches+skip_term.Tie.{close}
 use native.Mathlib.Omega.{arith}
 use borrow.Author.Needs.{needs}
-use Prim.Native.Nat.{_-_, _+_, suc}
-use mathlib.Core.Path.{_≡_, refl, sym, ap, _∙_, subst}
+use Prim.Native.Nat.{_-_, _+_}
+use mathlib.Core.Path.{refl, sym, _∙_}
 use lib.ListN.{length}
 use Rattle.machine.specs.Skips.{Skips, SkipsAll}
-use Rattle.machine.proofs.step.Skipping.{skips-past, skips-safe, leaf-next, one-next, two-next, many-next, skips-one, all-next, more-left, skips-from, all-from}
+use Rattle.machine.proofs.step.Skipping.{skips-past, skips-safe, leaf-next, one-next, two-next, many-next, all-next, more-left, skips-from, all-from}
 
 abbrev μ-skip-branches : Measures 2 skip-branches-kinds.ps ℕ
 μ-skip-branches κs a = length (a .0 .now) - a .1 .1 .0

@@ -2,8 +2,6 @@
 use borrow.Author.Needs.{needs}
 use Rattle.machine.proofs.step.arith.Statement.{statement}
 use Rattle.machine.proofs.step.arith.Tie as tie
-use Rattle.machine.proofs.step.arith.Reads as reads
-use Rattle.machine.proofs.step.arith.Lts as lts
 use Rattle.machine.proofs.frame.bind.Reads as bind-reads
 use Rattle.machine.proofs.frame.byte.Reads as byte-reads
 use Rattle.machine.proofs.frame.slot.Reads as slot-reads

@@ -2,8 +2,6 @@
 use borrow.Author.Needs.{needs}
 use Rattle.machine.proofs.step.call.Statement.{statement}
 use Rattle.machine.proofs.step.call.Tie as tie
-use Rattle.machine.proofs.step.call.Reads as reads
-use Rattle.machine.proofs.step.call.Lts as lts
 use Rattle.machine.proofs.frame.byte.Reads as byte-reads
 use Rattle.machine.proofs.frame.finish.Reads as finish-reads
 use Rattle.machine.proofs.frame.hand_over.Reads as hand-over-reads
@@ -11,14 +9,14 @@ use Rattle.machine.proofs.step.body.Reads as body-reads
 use Rattle.machine.proofs.step.larger.Reads as larger-reads
 use Rattle.machine.proofs.step.params.Reads as params-reads
 use native.Mathlib.Omega.{arith}
-use mathlib.Core.Path.{_≡_, refl, sym, ap, _∙_}
+use mathlib.Core.Path.{ap, _∙_}
 use Prim.Native.Nat.{_+_, _*_}
 use lib.ListN.{length-set}
 use borrow.Author.Tests.{le-leb, lt-leb}
 use Rattle.machine.specs.Layout.{clOf}
 use Rattle.meaning.specs.Choice.{pick}
 use Rattle.standing.specs.Bytes.{paramsIn, byteAt}
-use Rattle.machine.proofs.frame.Laid.{gathered-above}
+use Rattle.machine.proofs.frame.Laid.{gathered-above, low-apart}
 
 sub-if1 : tie.Need-sub-if1
 sub-if1 c = search needs
@@ -82,7 +80,7 @@ add-hand-over-2 : tie.Need-add-hand-over-2
 add-hand-over-2 c = search needs
 
 hand-over-requires : tie.Need-hand-over-requires
-hand-over-requires c κs = let e = c .before .before .params .ensures .0 ∙ ap (λ g. paramsIn (c .before .before .before .before .before .before .before .args .decl .now) g) (c .before .before .before .byte .ensures .0) in (omega (arith, e), omega arith, simp length-set (omega (arith, e)), rw e (c .before .before .before .before .before .before .before .pre .7))
+hand-over-requires c κs = let e = c .before .before .params .ensures .0 ∙ ap (λ g. paramsIn (c .before .before .before .before .before .before .before .args .decl .now) g) (c .before .before .before .byte .ensures .0) in (omega (arith, e), simp length-set (omega arith), simp length-set (omega (arith, e)), low-apart (c .before .before .before .before .before .before .before .args .file .now) (c .before .before .before .before .before .before .before .args .s .frame .depth * 32) (c .before .before .before .before .before .before .before .args .s .frame .at + 3) (c .before .before .before .before .before .before .before .args .s .frame .depth * 32 + 32) (c .before .before .params .result) (omega arith) (rw e (c .before .before .before .before .before .before .before .pre .7)))
 
 body-requires : tie.Need-body-requires
 body-requires c κs = search needs

@@ -2,14 +2,11 @@
 use borrow.Author.Needs.{needs}
 use Rattle.machine.proofs.step.choose.Statement.{statement}
 use Rattle.machine.proofs.step.choose.Tie as tie
-use Rattle.machine.proofs.step.choose.Reads as reads
-use Rattle.machine.proofs.step.choose.Lts as lts
 use Rattle.machine.proofs.frame.go_to.Reads as go-to-reads
 use Rattle.machine.proofs.frame.slot.Reads as slot-reads
 use Rattle.machine.proofs.step.end_of.Reads as end-of-reads
 use native.Mathlib.Omega.{arith}
-use mathlib.Core.Path.{_≡_, refl, sym, ap, _∙_}
-use Rattle.machine.specs.Layout.{top}
+use mathlib.Core.Path.{refl, sym, _∙_}
 use Rattle.machine.proofs.step.Ends.{keeps-same}
 
 mul-slot : tie.Need-mul-slot

@@ -2,8 +2,6 @@
 use borrow.Author.Needs.{needs}
 use Rattle.machine.proofs.step.constructor.Statement.{statement}
 use Rattle.machine.proofs.step.constructor.Tie as tie
-use Rattle.machine.proofs.step.constructor.Reads as reads
-use Rattle.machine.proofs.step.constructor.Lts as lts
 use Rattle.machine.proofs.frame.wide.Reads as wide-reads
 use native.Mathlib.Omega.{arith}
 use borrow.Author.Tests.{lt-ltb, le-ltb}

@@ -1,8 +1,6 @@
 -- The proof of `credit`. Assumes nothing.
 use Rattle.machine.proofs.step.credit.Statement.{statement}
 use Rattle.machine.proofs.step.credit.Tie as tie
-use Rattle.machine.proofs.step.credit.Reads as reads
-use Rattle.machine.proofs.step.credit.Lts as lts
 use borrow.Author.Tests.{eq-eqb, ne-eqb}
 use Rattle.meaning.specs.Choice.{pick}
 use Rattle.machine.specs.Steps.{creditOf}

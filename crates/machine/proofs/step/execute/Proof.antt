@@ -2,13 +2,9 @@
 use borrow.Author.Needs.{needs}
 use Rattle.machine.proofs.step.execute.Statement.{statement}
 use Rattle.machine.proofs.step.execute.Tie as tie
-use Rattle.machine.proofs.step.execute.Reads as reads
-use Rattle.machine.proofs.step.execute.Lts as lts
 use Rattle.machine.proofs.step.first_state.Reads as first-state-reads
 use Rattle.machine.proofs.step.go.Reads as go-reads
-use native.Mathlib.Omega.{arith}
-use mathlib.Core.Path.{_≡_, refl, ap, _∙_}
-use lib.ListN.{drop}
+use mathlib.Core.Path.{_∙_}
 use Rattle.machine.proofs.step.First.{first-fit, first-run, first-small, first-behind}
 
 first-state-requires : tie.Need-first-state-requires

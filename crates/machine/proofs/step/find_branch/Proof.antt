@@ -1,14 +1,12 @@
 -- The proof of `find_branch`. Assumes nothing.
 use Rattle.machine.proofs.step.find_branch.Statement.{statement}
 use Rattle.machine.proofs.step.find_branch.Tie as tie
-use Rattle.machine.proofs.step.find_branch.Reads as reads
-use Rattle.machine.proofs.step.find_branch.Lts as lts
 use Rattle.machine.proofs.frame.byte.Reads as byte-reads
 use Rattle.machine.proofs.step.end_of.Reads as end-of-reads
 use native.Mathlib.Omega.{arith}
-use Prim.Native.Nat.{ℕ, suc, _+_, _-_, _≤_, _<_}
-use mathlib.Core.Path.{_≡_, refl, sym, ap, _∙_}
-use Rattle.machine.specs.Skips.{Skips, SkipsAll, Found, Keeps}
+use Prim.Native.Nat.{ℕ, _≤_}
+use mathlib.Core.Path.{refl}
+use Rattle.machine.specs.Skips.{SkipsAll, Found, Keeps}
 use Rattle.machine.proofs.step.Skipping.{skips-safe, skips-all-past, all-next, all-from, found-here, found-later}
 use Rattle.machine.proofs.step.Ends.{keeps-same, keeps-on}
 

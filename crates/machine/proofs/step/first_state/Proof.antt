@@ -2,12 +2,9 @@
 use borrow.Author.Needs.{needs}
 use Rattle.machine.proofs.step.first_state.Statement.{statement}
 use Rattle.machine.proofs.step.first_state.Tie as tie
-use Rattle.machine.proofs.step.first_state.Reads as reads
-use Rattle.machine.proofs.step.first_state.Lts as lts
 use Rattle.machine.proofs.frame.Frame.fresh.Reads as fresh-reads
 use Rattle.machine.proofs.step.body.Reads as body-reads
-use mathlib.Core.Path.{_≡_, refl}
-use Rattle.machine.specs.Layout.{top, going, firstOf}
+use Rattle.machine.specs.Layout.{firstOf}
 
 body-requires : tie.Need-body-requires
 body-requires c κs = search needs

@@ -2,8 +2,6 @@
 use borrow.Author.Needs.{needs}
 use Rattle.machine.proofs.step.give.Statement.{statement}
 use Rattle.machine.proofs.step.give.Tie as tie
-use Rattle.machine.proofs.step.give.Reads as reads
-use Rattle.machine.proofs.step.give.Lts as lts
 use Rattle.machine.proofs.frame.bind.Reads as bind-reads
 use Rattle.machine.proofs.frame.finish.Reads as finish-reads
 use Rattle.machine.proofs.frame.slot.Reads as slot-reads

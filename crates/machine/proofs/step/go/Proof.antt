@@ -1,17 +1,14 @@
 -- The proof of `go`. Assumes nothing.
 use Rattle.machine.proofs.step.go.Statement.{statement}
 use Rattle.machine.proofs.step.go.Tie as tie
-use Rattle.machine.proofs.step.go.Reads as reads
-use Rattle.machine.proofs.step.go.Lts as lts
 use Rattle.machine.proofs.step.place_of.Reads as place-of-reads
 use Rattle.machine.proofs.step.step.Reads as step-reads
 use native.Mathlib.Omega.{arith}
 use borrow.Author.Needs.{needs}
-use Prim.Native.Nat.{ℕ, suc, _+_, _-_, _≤_, _<_}
-use mathlib.Core.Path.{_≡_, refl, sym, ap, _∙_}
+use Prim.Native.Nat.{_-_, _≤_}
+use mathlib.Core.Path.{_≡_, refl, _∙_}
 use lib.ListN.{length, drop}
 use Rattle.machine.specs.Layout.{top}
-use Rattle.meaning.specs.Machine.{answers}
 use Rattle.machine.proofs.step.Needed.{fit-mark}
 use Rattle.machine.proofs.step.Runs.{Reached, reached-start, reached-next, reached-stop, reached-end, stop-small}
 use Rattle.machine.proofs.step.Behind.{step-behind}

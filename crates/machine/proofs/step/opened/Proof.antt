@@ -2,8 +2,6 @@
 use borrow.Author.Needs.{needs}
 use Rattle.machine.proofs.step.opened.Statement.{statement}
 use Rattle.machine.proofs.step.opened.Tie as tie
-use Rattle.machine.proofs.step.opened.Reads as reads
-use Rattle.machine.proofs.step.opened.Lts as lts
 use Rattle.machine.proofs.frame.go_to.Reads as go-to-reads
 use Rattle.machine.proofs.frame.load.Reads as load-reads
 use Rattle.machine.proofs.frame.wide.Reads as wide-reads

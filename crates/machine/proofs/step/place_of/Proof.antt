@@ -1,8 +1,6 @@
 -- The proof of `place_of`. Assumes nothing.
 use Rattle.machine.proofs.step.place_of.Statement.{statement}
 use Rattle.machine.proofs.step.place_of.Tie as tie
-use Rattle.machine.proofs.step.place_of.Reads as reads
-use Rattle.machine.proofs.step.place_of.Lts as lts
 use borrow.Author.Tests.{eq-eqb, ne-eqb}
 use Rattle.meaning.specs.Choice.{pick}
 use Rattle.machine.specs.Steps.{placeOf}

@@ -2,8 +2,6 @@
 use borrow.Author.Needs.{needs}
 use Rattle.machine.proofs.step.step.Statement.{statement}
 use Rattle.machine.proofs.step.step.Tie as tie
-use Rattle.machine.proofs.step.step.Reads as reads
-use Rattle.machine.proofs.step.step.Lts as lts
 use Rattle.machine.proofs.step.arith.Reads as arith-reads
 use Rattle.machine.proofs.step.atom.Reads as atom-reads
 use Rattle.machine.proofs.step.call.Reads as call-reads
@@ -16,7 +14,7 @@ use Rattle.machine.proofs.step.number.Reads as number-reads
 use Rattle.machine.proofs.step.tail.Reads as tail-reads
 use Rattle.machine.proofs.step.take_branch.Reads as take-branch-reads
 use native.Mathlib.Omega.{arith}
-use mathlib.Core.Path.{_≡_, refl, sym, ap, _∙_}
+use mathlib.Core.Path.{refl}
 use Rattle.meaning.specs.Marks.{Mark, markOf, findMark}
 use Rattle.standing.specs.Bytes.{markAt}
 use Rattle.machine.proofs.step.Marked.{mark-is, past-TL, no-node}

@@ -2,13 +2,11 @@
 use borrow.Author.Needs.{needs}
 use Rattle.machine.proofs.step.sum.Statement.{statement}
 use Rattle.machine.proofs.step.sum.Tie as tie
-use Rattle.machine.proofs.step.sum.Reads as reads
-use Rattle.machine.proofs.step.sum.Lts as lts
 use native.Mathlib.Omega.{arith}
-use Prim.Native.Nat.{ℕ, zero, suc, _-_, _≤_}
+use Prim.Native.Nat.{ℕ, zero, suc, _-_}
 use mathlib.Core.Path.{_≡_, refl}
 use mathlib.Core.Logic.{⊎-elim}
-use lib.Dec.{ltb, eqb}
+use lib.Dec.{eqb}
 use borrow.Author.Tests.{lt-ltb, le-ltb, eq-eqb, ne-eqb}
 use Rattle.meaning.specs.Plain.{arithmetic, flag}
 

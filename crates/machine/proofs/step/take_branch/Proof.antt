@@ -2,8 +2,6 @@
 use borrow.Author.Needs.{needs}
 use Rattle.machine.proofs.step.take_branch.Statement.{statement}
 use Rattle.machine.proofs.step.take_branch.Tie as tie
-use Rattle.machine.proofs.step.take_branch.Reads as reads
-use Rattle.machine.proofs.step.take_branch.Lts as lts
 use Rattle.machine.proofs.frame.byte.Reads as byte-reads
 use Rattle.machine.proofs.frame.finish.Reads as finish-reads
 use Rattle.machine.proofs.frame.slot.Reads as slot-reads
@@ -12,7 +10,6 @@ use Rattle.machine.proofs.step.find_branch.Reads as find-branch-reads
 use Rattle.machine.proofs.step.opened.Reads as opened-reads
 use native.Mathlib.Omega.{arith}
 use Prim.Native.Nat.{_<_}
-use mathlib.Core.Path.{_≡_, refl, sym, ap, _∙_}
 use borrow.Author.Tests.{eq-eqb, ne-eqb}
 use Rattle.meaning.specs.Choice.{pick}
 use Rattle.machine.specs.Layout.{opOf}
