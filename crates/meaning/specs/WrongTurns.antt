@@ -51,6 +51,10 @@ two-branches =
     0x43 ∷ 0x4E ∷ 0x00 ∷ 0x43 ∷ 0x4E ∷ 0x00 ∷ 0x46 ∷ 0x4E ∷ 0x02 ∷ 0x02 ∷ 0x02 ∷ 0x01 ∷ 0x42 ∷ 0x44 ∷ 0x4F ∷ 0x50 ∷ 0x00 ∷ 0x02
     ∷ 0x42 ∷ 0x52 ∷ 0x00 ∷ 0x47 ∷ 0x56 ∷ 0x01 ∷ 0x42 ∷ 0x52 ∷ 0x01 ∷ 0x47 ∷ 0x56 ∷ 0x01 ∷ 0x4E ∷ 0x44 ∷ []
 
+-- the reversal with its branches in the other order
+abbrev pub other-order : List ℕ
+other-order = take 20 reversal ++ (take 14 (drop 26 reversal) ++ (take 6 (drop 20 reversal) ++ drop 40 reversal))
+
 abbrev pub turns : List Case
 turns =
     gives (checked lent-first) (verdict (verdicts.Refused 9 17))
@@ -62,6 +66,8 @@ turns =
     ∷ gives (checked (take 12 left-over)) (verdict (verdicts.Refused 2 12))
     -- P11 with budget 1: the first step moves no cell
     ∷ gives (run-on reversal (65536 ∷ 0 ∷ []) two-cells 1) (answers ends.BudgetSpent 0 1 29 1 two-cells)
+    -- a branch starts from the slots before the list, not from those that the branch before it bound
+    ∷ gives (checked other-order) (verdict (verdicts.Flat 1 1))
     ∷ []
 
 pub all-turns : map (λ c. told-of (c .asked)) turns ≡ map (λ c. c .expected) turns
