@@ -1,6 +1,7 @@
 //! The examples beside the package: each text gives the bytes beside it, and each start its answer and its cells.
 
 use peer::input::{Request, check_line, run_line};
+use peer::random::Random;
 use peer::text::assemble;
 use std::path::{Path, PathBuf};
 
@@ -112,5 +113,71 @@ fn starts() {
             assert_eq!(answer, run.answer, "{name}: {}", run.name);
             assert_eq!(store, run.after, "{name}: {}", run.name);
         }
+    }
+}
+
+/// The numbers of a list of cons and nil, constructors 1 and 0.
+fn list(store: &[u32], mut word: u32) -> Vec<u32> {
+    let mut numbers = Vec::new();
+    while word != 0 {
+        let cell = &store[5 * (word - 65_536) as usize..][..5];
+        assert_eq!(cell[0], 1);
+        numbers.push(cell[1]);
+        word = cell[2];
+    }
+    numbers
+}
+
+/// Both sorts sort random lists, and use every cell of them.
+#[test]
+fn sorts() {
+    let mut random = Random::new(7);
+    for Example { name, bytes, .. } in examples().into_iter().filter(|it| ["insertion", "mergesort"].contains(&it.name.as_str()))
+    {
+        for length in (0..60).chain([300]) {
+            let mut numbers: Vec<u32> = (0..length).map(|_| random.below(50) as u32).collect();
+            let next = |index: usize| if index + 1 < length { 65_537 + index as u32 } else { 0 };
+            let store = numbers.iter().enumerate().flat_map(|(index, number)| [1, *number, next(index), 0, 0]).collect();
+            let arguments = vec![if length == 0 { 0 } else { 65_536 }];
+            let request = Request { file: bytes.clone(), arguments, store, budget: u32::MAX };
+            let (answer, store) = run_line(&request.write());
+            let fields = self::numbers(&answer);
+            numbers.sort();
+            assert_eq!((fields[0], list(&store, fields[1])), (0, numbers), "{name}");
+        }
+    }
+}
+
+/// The black nodes on every way down a red-black tree; its keys are added in order.
+fn blacks(store: &[u32], word: u32, under_red: bool, keys: &mut Vec<u32>) -> usize {
+    if word == 0 {
+        return 0;
+    }
+    let cell = &store[5 * (word - 65_536) as usize..][..5];
+    let red = cell[1] == 1;
+    assert!(cell[0] == 1 && !(red && under_red));
+    let left = blacks(store, cell[2], red, keys);
+    keys.push(cell[3]);
+    assert_eq!(left, blacks(store, cell[4], red, keys));
+    left + usize::from(!red)
+}
+
+/// Random keys, inserted one by one, stay in order and in balance.
+#[test]
+fn red_black() {
+    let file = examples().into_iter().find(|it| it.name == "redblack").expect("the example").bytes;
+    let mut random = Random::new(9);
+    let (mut root, mut store, mut keys) = (0, [5, 0, 0, 0, 0].repeat(200), Vec::new());
+    for spare in 65_536..65_736 {
+        keys.push(random.below(1_000) as u32);
+        let request = Request { file: file.clone(), arguments: vec![root, keys[keys.len() - 1], spare], store, budget: 0 };
+        let (answer, after) = run_line(&request.write());
+        let fields = numbers(&answer);
+        assert_eq!(fields[0], 0);
+        (root, store) = (fields[1], after);
+        let (mut sorted, mut found) = (keys.clone(), Vec::new());
+        sorted.sort();
+        blacks(&store, root, false, &mut found);
+        assert_eq!(found, sorted);
     }
 }
