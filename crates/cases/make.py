@@ -1,8 +1,9 @@
 #!/usr/bin/env python3
-"""make.py: write `stdin` and `stdout` beside this file: the worked and the boundary cases of document 01, each with the line that the document asks for.
+"""make.py: write `stdin` and `stdout` beside this file: the worked and the boundary cases of document 01 and the examples, each with the line that the document asks for.
 
-No line here comes from a program: each stands beside its case, worked out from the document by hand.
+No line here comes from a program: each stands beside its case, or in the example's file, worked out from the document by hand.
 """
+import glob
 import os
 
 REVERSAL = bytes.fromhex("434E00 434E020001 464E02020201 4244 4F500002 425200475601 4252014D4B01040201 544C000305 4E44")
@@ -198,7 +199,32 @@ run("0 1 4 0 1", file_of([fn(0)], nu(65535) + nu(2) + ar(0, 0, 1) + gv(2)))
 run("0 1 4 0 1", file_of([fn(0)], nu(3) + nu(4) + ar(2, 0, 1) + gv(2)))
 run("0 0 4 0 1", file_of([fn(0)], nu(3) + nu(4) + ar(3, 0, 1) + gv(2)))
 
+def example(path):
+    """The verdict and the runs of an example, from the file with its starts and the one with its bytes."""
+    with open(os.path.splitext(path)[0] + ".hex") as text:
+        file = bytes.fromhex(text.read())
+    start = {}
+    for line in open(path):
+        word, _, rest = line.strip().partition(" ")
+        if word == "verdict":
+            check(rest, file)
+        elif word == "run":
+            start = {"args": [], "cells": []}
+        elif word == "arguments":
+            start["args"] = [int(n) for n in rest.split()]
+        elif word == "cell":
+            start["cells"].append([int(n) for n in rest.split()])
+        elif word == "budget":
+            start["budget"] = int(rest)
+        elif word == "answer":
+            run(rest, file, **start)
+
+
+# The examples.
 here = os.path.dirname(os.path.abspath(__file__))
+for path in sorted(glob.glob(os.path.join(here, "..", "..", "examples", "*.run"))):
+    example(path)
+
 with open(os.path.join(here, "stdin"), "wb") as out:
     for kind, data, _ in cases:
         out.write(bytes([kind]) + len(data).to_bytes(3, "big") + data)
