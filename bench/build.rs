@@ -1,4 +1,4 @@
-//! Links the proved library if the variable BASE_LIBRARY names a static library file, such as a path that ends in libbase.a.
+//! Links the proved library if the variable BASE_LIBRARY names a static library file, such as a path that ends in libexport.a.
 
 use std::path::Path;
 
@@ -10,7 +10,7 @@ fn main() {
     let path = Path::new(&library);
     let name = path.file_stem().and_then(|name| name.to_str()).and_then(|name| name.strip_prefix("lib"));
     let (Some(folder), Some(name)) = (path.parent(), name) else {
-        panic!("BASE_LIBRARY must name a file like libbase.a");
+        panic!("BASE_LIBRARY must name a file like libexport.a");
     };
     println!("cargo::rerun-if-changed={library}");
     println!("cargo::rustc-link-search=native={}", folder.display());

@@ -3,11 +3,11 @@
 
 use peer::{Answer, Verdict};
 
-/// The library's own functions: numbers pass as themselves, slices as pointer and length.
+/// The library's own functions: numbers pass as themselves, slices as pointer and length, arrays as a pointer.
 #[cfg(proved_library)]
 mod library {
     unsafe extern "C" {
-        pub fn base_check(file: *const u8, file_length: usize, out: *mut u32, out_length: usize);
+        pub fn base_check(file: *const u8, file_length: usize, out: *mut [u32; 4]);
         pub fn base_run(
             file: *const u8,
             file_length: usize,
@@ -18,8 +18,7 @@ mod library {
             work: *mut u32,
             work_length: usize,
             budget: u32,
-            out: *mut u32,
-            out_length: usize,
+            out: *mut [u32; 5],
         );
     }
 }
@@ -31,8 +30,8 @@ pub const PRESENT: bool = cfg!(proved_library);
 #[cfg(proved_library)]
 pub fn check(file: &[u8]) -> Verdict {
     let mut out = [0; 4];
-    // SAFETY: both pointers come from live slices of the lengths passed with them, and the library keeps neither.
-    unsafe { library::base_check(file.as_ptr(), file.len(), out.as_mut_ptr(), out.len()) };
+    // SAFETY: the file's pointer and length are those of a live slice, `out` is a live array, and the library keeps neither.
+    unsafe { library::base_check(file.as_ptr(), file.len(), &raw mut out) };
     match out {
         [0, depth, reached, 0] => Verdict::Flat { depth, reached },
         [1, reached, 0, 0] => Verdict::Stacked { reached },
@@ -45,7 +44,7 @@ pub fn check(file: &[u8]) -> Verdict {
 #[cfg(proved_library)]
 pub fn run(file: &[u8], arguments: &[u32], store: &mut [u32], work: &mut [u32], budget: u32) -> Answer {
     let mut out = [0; 5];
-    // SAFETY: all pointers come from live slices of the lengths passed with them, those written to are borrowed as mutable, and the library keeps none.
+    // SAFETY: each pointer and length are those of a live slice, `out` is a live array, what is written to is borrowed as mutable, and the library keeps nothing.
     unsafe {
         library::base_run(
             file.as_ptr(),
@@ -57,8 +56,7 @@ pub fn run(file: &[u8], arguments: &[u32], store: &mut [u32], work: &mut [u32], 
             work.as_mut_ptr(),
             work.len(),
             budget,
-            out.as_mut_ptr(),
-            out.len(),
+            &raw mut out,
         );
     }
     let [number, value, steps, place, frames] = out;

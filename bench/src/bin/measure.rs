@@ -1,4 +1,5 @@
 //! Measures the proved library, the peer and native loops in one process, round by round in turn: the least times, and the middle of the rounds' ratios.
+//! Of the runs with many steps it also shows the steps alone, as what a whole run takes beyond a run that is cut after one step.
 #![forbid(unsafe_code)]
 
 use bench::proved;
@@ -35,8 +36,12 @@ fn main() {
     for mut workload in all() {
         if workload.name.contains(&wanted) {
             let native = workload.native.take();
+            let stepping = native.is_some() && !workload.name.starts_with("fixed");
             let native = native.map(|mut native| Box::new(move || _ = black_box(native())) as Measured);
             row(&workload.name, [linked(runs(&workload, proved::run)), Some(runs(&workload, peer::run)), native]);
+            if stepping {
+                steps(&workload);
+            }
         }
     }
 }
@@ -59,16 +64,46 @@ fn runs(workload: &Workload, run: Run) -> Measured<'_> {
     })
 }
 
+/// Runs a workload for one step, again and again.
+fn begins(workload: &Workload, run: Run) -> Measured<'_> {
+    let (mut store, mut work) = (workload.store.clone(), vec![0; WORK_WORDS]);
+    Box::new(move || {
+        let answer = run(black_box(&workload.file), black_box(&workload.arguments), &mut store, &mut work, 1);
+        assert_eq!(answer.number, 32, "{}", workload.name);
+    })
+}
+
+/// Measures and prints the time of one step of a workload: the least time of a whole run beyond the least of one cut after a step.
+fn steps(workload: &Workload) {
+    let (mut store, mut work) = (workload.store.clone(), vec![0; WORK_WORDS]);
+    let answer = peer::run(&workload.file, &workload.arguments, &mut store, &mut work, workload.budget);
+    let of = |run: Run| [Some(runs(workload, run)), Some(begins(workload, run))];
+    let [peer, begun] = of(peer::run);
+    let [proved, proved_begun] = if proved::PRESENT { of(proved::run) } else { [None, None] };
+    let mut measured = [proved, proved_begun, peer, begun];
+    let rounds = rounds(&mut measured);
+    let step = |index: usize| (least(&rounds, index) - least(&rounds, index + 1)) / f64::from(answer.steps - 1);
+    let (proved, peer) = (step(0), step(2));
+    let name = format!("  of it, each of {} steps", answer.steps);
+    println!("{name:<42} {:>11} {:>11} {:>11} {:>8}", cell(proved, 2), cell(peer, 2), "-", cell(proved / peer, 2));
+}
+
+/// The nanoseconds of each thing in each round, in turn.
+fn rounds<const THINGS: usize>(measured: &mut [Option<Measured>; THINGS]) -> Vec<[f64; THINGS]> {
+    let times: [usize; THINGS] = std::array::from_fn(|index| measured[index].as_mut().map_or(0, repetitions));
+    let mut round = || std::array::from_fn(|index| measured[index].as_mut().map_or(f64::NAN, |thing| once(thing, times[index])));
+    (0..ROUNDS).map(|_| round()).collect()
+}
+
+/// The least time of a thing in any round.
+fn least<const THINGS: usize>(rounds: &[[f64; THINGS]], index: usize) -> f64 {
+    rounds.iter().map(|round| round[index]).fold(f64::NAN, f64::min)
+}
+
 /// Measures what stands in a row, round by round in turn, and prints it.
 fn row(name: &str, mut measured: [Option<Measured>; 3]) {
-    let times: [usize; 3] = std::array::from_fn(|index| measured[index].as_mut().map_or(0, repetitions));
-    let mut rounds = Vec::new();
-    for _ in 0..ROUNDS {
-        let round: [f64; 3] =
-            std::array::from_fn(|index| measured[index].as_mut().map_or(f64::NAN, |measured| once(measured, times[index])));
-        rounds.push(round);
-    }
-    let least = |index: usize| cell(rounds.iter().map(|round| round[index]).fold(f64::NAN, f64::min), 1);
+    let rounds = rounds(&mut measured);
+    let least = |index: usize| cell(least(&rounds, index), 1);
     let ratio = |over: usize, under: usize| cell(middle(rounds.iter().map(|round| round[over] / round[under]).collect()), 2);
     print!("{name:<42} {:>11} {:>11} {:>11}", least(0), least(1), least(2));
     println!(" {:>8} {:>8} {:>8}", ratio(0, 1), ratio(0, 2), ratio(1, 2));
