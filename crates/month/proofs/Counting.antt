@@ -10,7 +10,7 @@ use lib.ListN.{length, getD, set, drop, replicate, drop-of-length-le}
 use lib.Seq.{drop-cons}
 use lib.Dec.{leb, eqb}
 use Rattle.meaning.specs.Choice.{pick}
-use Rattle.month.specs.Month.{Run, run, runsOf, numbers, among, known, count, ended, stepsOf, framesOf, highest, lowest, within}
+use Rattle.month.specs.Month.{Run, run, runsOf, numbers, among, known, count, ended, stepsOf, framesOf, highest, lowest, within, those}
 use Rattle.month.proofs.Words.{next-run, no-run}
 
 pub count-next : (n had : ℕ) (r : Run) (rest : List Run) → had + count n (r ∷ rest) ≡ pick (eqb (r .number) n) (suc had) had + count n rest
@@ -22,7 +22,7 @@ count-next n had r rest = go (eqb (r .number) n)
     go false = refl
 
 pub steps-next : (from : ℕ) (r : Run) (rest : List Run) → highest from (stepsOf (r ∷ rest)) ≡ highest (pick (eqb (r .number) 0) (max from (r .steps)) from) (stepsOf rest)
-unfolding stepsOf ended pick highest
+unfolding stepsOf ended those pick highest
 steps-next from r rest = go (eqb (r .number) 0)
   where
     go : (b : Bool) → highest from (map (λ x. x .steps) (pick b (r ∷ ended rest) (ended rest))) ≡ highest (pick b (max from (r .steps)) from) (map (λ x. x .steps) (ended rest))
@@ -30,7 +30,7 @@ steps-next from r rest = go (eqb (r .number) 0)
     go false = refl
 
 pub frames-next : (from : ℕ) (r : Run) (rest : List Run) → highest from (framesOf (r ∷ rest)) ≡ highest (pick (eqb (r .number) 0) (max from (r .frames)) from) (framesOf rest)
-unfolding framesOf ended pick highest
+unfolding framesOf ended those pick highest
 frames-next from r rest = go (eqb (r .number) 0)
   where
     go : (b : Bool) → highest from (map (λ x. x .frames) (pick b (r ∷ ended rest) (ended rest))) ≡ highest (pick b (max from (r .frames)) from) (map (λ x. x .frames) (ended rest))
@@ -38,7 +38,7 @@ frames-next from r rest = go (eqb (r .number) 0)
     go false = refl
 
 pub least-next : (from : ℕ) (r : Run) (rest : List Run) → lowest from (stepsOf (r ∷ rest)) ≡ lowest (pick (eqb (r .number) 0) (min from (r .steps)) from) (stepsOf rest)
-unfolding stepsOf ended pick lowest
+unfolding stepsOf ended those pick lowest
 least-next from r rest = go (eqb (r .number) 0)
   where
     go : (b : Bool) → lowest from (map (λ x. x .steps) (pick b (r ∷ ended rest) (ended rest))) ≡ lowest (pick b (min from (r .steps)) from) (map (λ x. x .steps) (ended rest))
@@ -46,7 +46,7 @@ least-next from r rest = go (eqb (r .number) 0)
     go false = refl
 
 pub within-next : (bound had : ℕ) (r : Run) (rest : List Run) → had + within bound (stepsOf (r ∷ rest)) ≡ pick (eqb (r .number) 0) (pick (leb (r .steps) bound) (suc had) had) had + within bound (stepsOf rest)
-unfolding stepsOf ended pick within
+unfolding stepsOf ended those pick within
 within-next bound had r rest = go (eqb (r .number) 0) (leb (r .steps) bound) refl
   where
     go : (b d : Bool) → leb (r .steps) bound ≡ d → had + within bound (map (λ x. x .steps) (pick b (r ∷ ended rest) (ended rest))) ≡ pick b (pick d (suc had) had) had + within bound (map (λ x. x .steps) (ended rest))
@@ -56,7 +56,7 @@ within-next bound had r rest = go (eqb (r .number) 0) (leb (r .steps) bound) ref
 
 -- as many runs ended with 0 as are counted for it
 pub ended-count : (runs : List Run) → length (stepsOf runs) ≡ count 0 runs
-unfolding stepsOf ended count pick
+unfolding stepsOf ended those count pick
 ended-count [] = refl
 ended-count (r ∷ rest) = go (eqb (r .number) 0) (ended-count rest)
   where
@@ -110,28 +110,28 @@ pub steps-turn : (words : List ℕ) (at had : ℕ) {new : ℕ} → 2 < length wo
 steps-turn words at had h e = rw (next-run words at h, e) (steps-next had (run (getD words at 0) (getD words (at + 1) 0) (getD words (at + 2) 0)) (runsOf (drop (at + 3) words)))
 
 pub steps-end : (words : List ℕ) (at had : ℕ) → length words - at ≤ 2 → highest had (stepsOf (runsOf (drop at words))) ≡ had
-unfolding stepsOf ended highest
+unfolding stepsOf ended those highest
 steps-end words at had h = rw (no-run words at h)
 
 pub frames-turn : (words : List ℕ) (at had : ℕ) {new : ℕ} → 2 < length words - at → new ≡ pick (eqb (getD words at 0) 0) (max had (getD words (at + 2) 0)) had → highest had (framesOf (runsOf (drop at words))) ≡ highest new (framesOf (runsOf (drop (at + 3) words)))
 frames-turn words at had h e = rw (next-run words at h, e) (frames-next had (run (getD words at 0) (getD words (at + 1) 0) (getD words (at + 2) 0)) (runsOf (drop (at + 3) words)))
 
 pub frames-end : (words : List ℕ) (at had : ℕ) → length words - at ≤ 2 → highest had (framesOf (runsOf (drop at words))) ≡ had
-unfolding framesOf ended highest
+unfolding framesOf ended those highest
 frames-end words at had h = rw (no-run words at h)
 
 pub least-turn : (words : List ℕ) (at had : ℕ) {new : ℕ} → 2 < length words - at → new ≡ pick (eqb (getD words at 0) 0) (min had (getD words (at + 1) 0)) had → lowest had (stepsOf (runsOf (drop at words))) ≡ lowest new (stepsOf (runsOf (drop (at + 3) words)))
 least-turn words at had h e = rw (next-run words at h, e) (least-next had (run (getD words at 0) (getD words (at + 1) 0) (getD words (at + 2) 0)) (runsOf (drop (at + 3) words)))
 
 pub least-end : (words : List ℕ) (at had : ℕ) → length words - at ≤ 2 → lowest had (stepsOf (runsOf (drop at words))) ≡ had
-unfolding stepsOf ended lowest
+unfolding stepsOf ended those lowest
 least-end words at had h = rw (no-run words at h)
 
 pub within-turn : (words : List ℕ) (at bound had : ℕ) {new : ℕ} → 2 < length words - at → new ≡ pick (eqb (getD words at 0) 0) (pick (leb (getD words (at + 1) 0) bound) (suc had) had) had → had + within bound (stepsOf (runsOf (drop at words))) ≡ new + within bound (stepsOf (runsOf (drop (at + 3) words)))
 within-turn words at bound had h e = rw (next-run words at h, e) (within-next bound had (run (getD words at 0) (getD words (at + 1) 0) (getD words (at + 2) 0)) (runsOf (drop (at + 3) words)))
 
 pub within-end : (words : List ℕ) (at bound had : ℕ) → length words - at ≤ 2 → had + within bound (stepsOf (runsOf (drop at words))) ≡ had
-unfolding stepsOf ended within
+unfolding stepsOf ended those within
 within-end words at bound had h = rw (no-run words at h) (omega arith)
 
 pub known-turn : (words : List ℕ) (at : ℕ) {b : Bool} → 2 < length words - at → b ≡ among (getD words at 0) numbers → b ≡ true → known (runsOf (drop at words)) ≡ known (runsOf (drop (at + 3) words))

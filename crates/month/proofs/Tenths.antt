@@ -11,7 +11,7 @@ use lib.ListN.{length}
 use lib.Dec.{leb}
 use Rattle.meaning.specs.Choice.{pick}
 use Rattle.meaning.specs.Derivation.{Has, here, there}
-use Rattle.month.specs.Month.{highest, greatest, lowest, least, within, enough, those, nineTenths}
+use Rattle.month.specs.Month.{highest, greatest, lowest, least, within, enough, those, nineTenths, IsNineTenths}
 
 -- ---- the greatest and the least
 
@@ -212,11 +212,6 @@ figure-enough xs h = leb-true (9 * length xs) (10 * within (nineTenths xs) xs) (
 pub short-below : (xs : List ℕ) (m : ℕ) → 10 * within m xs < 9 * length xs → m < nineTenths xs
 short-below xs m h = lt-of-not-le (λ k. let p = figure-enough xs (omega arith) in let q = within-mono (nineTenths xs) m xs k in absurd (omega arith))
 
--- "the smallest step count that at least nine tenths don't exceed": one of the counts, that so many do not exceed, and no smaller number is such
-pub record IsNineTenths (xs : List ℕ) (v : ℕ) : Type 0 where
-  pub one-of-them : Has v xs
-  pub nine-tenths : 9 * length xs ≤ 10 * within v xs
-  pub smallest : (w : ℕ) → 9 * length xs ≤ 10 * within w xs → v ≤ w
-
+-- the figure is what its sentence says
 pub nine-tenths-exact : (xs : List ℕ) → 0 < length xs → IsNineTenths xs (nineTenths xs)
 nine-tenths-exact xs h = record { one-of-them = those-among (enough xs) xs (figure-has xs h); nine-tenths = figure-enough xs h; smallest = λ w k. enough-above xs w k }

@@ -5,6 +5,7 @@ use mathlib.Core.List.{List, [], _∷_, _++_, map}
 use lib.ListN.{length, replicate}
 use lib.Dec.{ltb, leb, eqb}
 use Rattle.meaning.specs.Choice.{pick}
+use Rattle.meaning.specs.Derivation.{Has}
 use Rattle.month.specs.declared.Summary.{Summary}
 
 -- "answer number, steps and frames of each run"
@@ -44,10 +45,14 @@ count n (r ∷ rest) = pick (eqb (r .number) n) (suc (count n rest)) (count n re
 unfoldable pub countsOf : List Run → List ℕ
 countsOf runs = map (λ n. count n runs) numbers
 
+-- the elements that pass a test
+unfoldable pub those : {A : Type 0} → (A → Bool) → List A → List A
+those test [] = []
+those test (x ∷ rest) = pick (test x) (x ∷ those test rest) (those test rest)
+
 -- "over runs that ended with 0": their steps, and their frames
 unfoldable pub ended : List Run → List Run
-ended [] = []
-ended (r ∷ rest) = pick (eqb (r .number) 0) (r ∷ ended rest) (ended rest)
+ended runs = those (λ r. eqb (r .number) 0) runs
 
 unfoldable pub stepsOf : List Run → List ℕ
 stepsOf runs = map (λ r. r .steps) (ended runs)
@@ -80,14 +85,17 @@ within bound (x ∷ rest) = pick (leb x bound) (suc (within bound rest)) (within
 unfoldable pub enough : List ℕ → (bound : ℕ) → Bool
 enough xs bound = leb (9 * length xs) (10 * within bound xs)
 
-unfoldable pub those : (ℕ → Bool) → List ℕ → List ℕ
-those test [] = []
-those test (x ∷ rest) = pick (test x) (x ∷ those test rest) (those test rest)
-
 -- "the smallest step count that at least nine tenths don't exceed"
 unfoldable pub nineTenths : List ℕ → ℕ
 nineTenths xs = least (those (enough xs) xs)
 
+-- what that says: one of the counts, that so many do not exceed, and no smaller number is such
+pub record IsNineTenths (xs : List ℕ) (v : ℕ) : Type 0 where
+  pub one-of-them : Has v xs
+  pub nine-tenths : 9 * length xs ≤ 10 * within v xs
+  pub smallest : (w : ℕ) → 9 * length xs ≤ 10 * within w xs → v ≤ w
+
+-- the four figures and the counts
 unfoldable pub figures : List Run → Summary
 figures runs = record { number = 0; counts = countsOf runs; least = least (stepsOf runs); greatest = greatest (stepsOf runs); most = nineTenths (stepsOf runs); frames = greatest (framesOf runs) }
 
@@ -98,3 +106,10 @@ refused n = record { number = n; counts = replicate 21 0; least = 0; greatest = 
 -- "80 over 4,096 runs or a part of one, 81 an answer number not in the table"
 unfoldable pub monthOf : (words : List ℕ) → Summary
 monthOf words = pick (ltb 12288 (length words)) (refused 80) (pick (eqb (length words % 3) 0) (pick (known (runsOf words)) (figures (runsOf words)) (refused 81)) (refused 80))
+
+-- the same elements in another order
+pub data Permutes {A : Type 0} : List A → List A → Type 0 where
+  none : Permutes [] []
+  same : {x : A} {xs ys : List A} → Permutes xs ys → Permutes (x ∷ xs) (x ∷ ys)
+  swap : {x y : A} {xs : List A} → Permutes (x ∷ (y ∷ xs)) (y ∷ (x ∷ xs))
+  both : {xs ys zs : List A} → Permutes xs ys → Permutes ys zs → Permutes xs zs
