@@ -6,7 +6,7 @@ use mathlib.Core.List.{List, [], _∷_, map}
 use native.Mathlib.Omega.{arith}
 use borrow.Author.Tests.{eq-eqb, ne-eqb}
 use mathlib.Core.Path.{subst}
-use lib.ListN.{length, getD, set, drop, replicate, drop-of-length-le}
+use lib.ListN.{length, getD, set, drop, replicate, drop-of-length-le, List·getD-eq-default}
 use lib.Seq.{drop-cons}
 use lib.Dec.{leb, eqb}
 use Rattle.meaning.specs.Choice.{pick}
@@ -177,3 +177,7 @@ counts-next f l i n x e h t v = let s : suc i ≡ i + 1 = omega arith in rw (e, 
 
 pub counts-done : (f : ℕ → ℕ) (l : List ℕ) (i : ℕ) → l ≡ partly f numbers i → i ≤ 21 → 21 ≤ i → l ≡ map f numbers
 counts-done f l i e h k = let s : i ≡ length numbers = omega (arith, table-length) in e ∙ ap (λ m. partly f numbers m) s ∙ partly-all f numbers
+
+-- past the table stands 0
+pub past-table : (i : ℕ) → 21 ≤ i → 0 ≡ getD numbers i 0
+past-table i h = sym (List·getD-eq-default numbers 0 (subst (λ m. m ≤ i) (sym table-length) h))

@@ -23,11 +23,21 @@ const NUMBERS: [u32; 21] = [
 ];
 
 // The answer number at a place in the table.
-fn number_at(i: usize) -> u32
+fn table_number(i: usize) -> u32
     requires { ⌜ i < 21 ⌝ }
     ensures { λ r. ⌜ r ≡ getD numbers i 0 ⌝ }
 {
     NUMBERS[i]
+}
+
+// The answer number whose count stands at a place of the counts; past the table, 0.
+pub fn number_at(i: usize) -> u32
+    ensures { λ r. ⌜ r ≡ getD numbers i 0 ⌝ }
+{
+    if i < 21 {
+        return table_number(i);
+    }
+    0
 }
 
 // Is it in the table of answer numbers?

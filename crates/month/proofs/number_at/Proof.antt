@@ -2,18 +2,16 @@
 use borrow.Author.Needs.{needs}
 use Rattle.month.proofs.number_at.Statement.{statement}
 use Rattle.month.proofs.number_at.Tie as tie
-use mathlib.Core.Path.{refl}
-use Rattle.month.specs.Month.{numbers}
+use Rattle.month.proofs.Counting.{past-table}
 
-mul-result : tie.Need-mul-result
-mul-result c = search needs
-
-array-read-result : tie.Need-array-read-result
-array-read-result c = search needs
+table-number-requires : tie.Need-table-number-requires
+table-number-requires c κs = search needs
 
 returns : tie.Need-returns
-unfolding numbers
-returns c = refl
+returns c = search needs
+
+returns-2 : tie.Need-returns-2
+returns-2 c = past-table _ (c .if1 .left)
 
 pub number-at-spec : {M : Type 1} → statement M
-number-at-spec = tie.close (tie.spec mul-result array-read-result returns)
+number-at-spec = tie.close (tie.spec table-number-requires returns returns-2)
