@@ -19,7 +19,27 @@ pub struct Summary {
 
 // The answer numbers of a run in document 01's table.
 const NUMBERS: [u32; 21] = [
-    0, 1, 2, 3, 4, 5, 6, 7, 8, 9, 10, 11, 12, 20, 21, 22, 23, 24, 31, 32, 33,
+    0,
+    1,
+    2,
+    3,
+    4,
+    5,
+    6,
+    7,
+    8,
+    9,
+    10,
+    11,
+    12,
+    20,
+    21,
+    22,
+    23,
+    24,
+    31,
+    32,
+    33,
 ];
 
 // The answer number at a place in the table.
