@@ -1,14 +1,13 @@
 -- The month in numbers does not depend on the order of the runs. Assumes nothing.
-use Prim.Native.Nat.{ℕ, zero, suc, _+_, _*_, _%_, _≤_, _<_, max, min}
-use mathlib.Core.Path.{_≡_, refl, sym, ap, ap₂, _∙_}
+use Prim.Native.Nat.{ℕ, suc, _*_, _%_, max, min}
+use mathlib.Core.Path.{_≡_, refl, ap, ap₂, _∙_}
 use mathlib.Core.Bool.{Bool, true, false}
 use mathlib.Core.List.{List, [], _∷_, map}
 use native.Mathlib.Omega.{arith}
-use native.Mathlib.Nat.{min-comm}
 use lib.ListN.{length}
 use lib.Dec.{leb, eqb}
 use Rattle.meaning.specs.Choice.{pick}
-use Rattle.month.specs.Month.{Run, runsOf, numbers, among, known, count, countsOf, ended, stepsOf, framesOf, highest, greatest, lowest, least, within, enough, those, nineTenths, figures, refused, monthOf, Permutes, none, same, swap, both}
+use Rattle.month.specs.Month.{Run, runsOf, numbers, among, known, count, countsOf, ended, stepsOf, framesOf, highest, greatest, lowest, least, within, enough, those, nineTenths, figures, monthOf, Permutes, none, same, swap, both}
 
 -- any list is in its own order
 as-is : {A : Type 0} (xs : List A) → Permutes xs xs

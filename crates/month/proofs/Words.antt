@@ -1,11 +1,11 @@
 -- The runs from a place in the words on: one more run, or none. Assumes nothing.
-use Prim.Native.Nat.{ℕ, zero, suc, _+_, _-_, _≤_, _<_}
-use mathlib.Core.Path.{_≡_, refl, sym, ap, _∙_}
+use Prim.Native.Nat.{ℕ, suc, _+_, _-_, _≤_, _<_}
+use mathlib.Core.Path.{_≡_, refl}
 use mathlib.Core.List.{List, [], _∷_}
 use native.Mathlib.Omega.{arith}
 use lib.ListN.{length, getD, drop, length-drop}
 use lib.Seq.{drop-cons}
-use Rattle.month.specs.Month.{Run, run, runsOf}
+use Rattle.month.specs.Month.{run, runsOf}
 
 -- three words more are a run more
 pub next-run : (words : List ℕ) (at : ℕ) → 2 < length words - at → runsOf (drop at words) ≡ run (getD words at 0) (getD words (at + 1) 0) (getD words (at + 2) 0) ∷ runsOf (drop (at + 3) words)

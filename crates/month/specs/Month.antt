@@ -1,7 +1,7 @@
 -- The month in numbers: the runs in a slice of words, the counts by answer number, and the figures over the runs that ended with 0. Assumes nothing.
-use Prim.Native.Nat.{ℕ, zero, suc, _*_, _≤_, _<_, _%_, min, max}
+use Prim.Native.Nat.{ℕ, suc, _*_, _≤_, _%_, min, max}
 use mathlib.Core.Bool.{Bool, true, false}
-use mathlib.Core.List.{List, [], _∷_, _++_, map}
+use mathlib.Core.List.{List, [], _∷_, map}
 use lib.ListN.{length, replicate}
 use lib.Dec.{ltb, leb, eqb}
 use Rattle.meaning.specs.Choice.{pick}

@@ -1,11 +1,10 @@
 // The month in numbers: from the answer number, steps and frames of each run, the counts by answer number and four figures.
 ghost use mathlib.Core.Path.{_≡_};
-ghost use mathlib.Core.Bool.{Bool, true, false};
-ghost use Prim.Native.Nat.{_<_, _≤_, _+_, _*_, max, min, suc};
+ghost use Prim.Native.Nat.{_<_, _≤_, max, min, suc};
 ghost use lib.ListN.{length, getD};
 ghost use lib.Dec.{leb, eqb};
 ghost use Rattle.meaning.specs.Choice.{pick};
-ghost use Rattle.month.specs.Month.{numbers, among, runsOf, known, count, countsOf, stepsOf, framesOf, highest, lowest, least, greatest, within, nineTenths, figures, refused, monthOf};
+ghost use Rattle.month.specs.Month.{numbers, among, runsOf, known, count, countsOf, stepsOf, framesOf, lowest, greatest, within, nineTenths, figures, refused, monthOf};
 
 // The figures of a month. `number` is 0, or the refusal's 80 or 81 with all else 0; `counts` are in the order of the table of answer numbers.
 pub struct Summary {
