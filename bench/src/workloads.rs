@@ -69,7 +69,7 @@ fn reversal(cells: usize) -> Workload {
         file: REVERSAL.to_vec(),
         arguments: vec![FIRST_CELL, 0],
         store: list(cells),
-        budget: 0,
+        budget: u32::MAX,
         again: true,
         native: Some(Box::new(native)),
     }
@@ -108,7 +108,7 @@ fn branches() -> Workload {
         file,
         arguments: vec![FIRST_CELL, 0],
         store,
-        budget: 0,
+        budget: u32::MAX,
         again: false,
         native: Some(Box::new(native)),
     }
@@ -146,7 +146,7 @@ fn arithmetic() -> Workload {
         file: COUNT.to_vec(),
         arguments: vec![5_000, 0],
         store: vec![],
-        budget: 0,
+        budget: u32::MAX,
         again: false,
         native: Some(Box::new(native)),
     }
@@ -159,7 +159,7 @@ fn owned_start(cells: usize) -> Workload {
         file: giving_back(),
         arguments: vec![FIRST_CELL],
         store: list(cells),
-        budget: 0,
+        budget: u32::MAX,
         again: false,
         native: None,
     }
@@ -173,7 +173,7 @@ fn lent_start(cells: usize) -> Workload {
         file: b"CN\x00CN\x02\x01\x01FN\x01\x01\x01BDAT\x00GV\x01ND".to_vec(),
         arguments: vec![FIRST_CELL],
         store: (0..cells).flat_map(|cell| [1, child(2 * cell + 1), child(2 * cell + 2), 0, 0]).collect(),
-        budget: 0,
+        budget: u32::MAX,
         again: false,
         native: None,
     }

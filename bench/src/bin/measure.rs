@@ -1,10 +1,12 @@
 //! Measures the proved library, the peer and native loops in one process, round by round in turn: the least times, and the middle of the rounds' ratios.
-//! Of the runs with many steps it also shows the steps alone, as what a whole run takes beyond a run that is cut after one step.
+//! Of the runs with many steps it also shows the steps alone, as what a whole run takes beyond a run that is cut after one step; there, native is a
+//! plain interpreter of the same bytes.
 #![forbid(unsafe_code)]
 
+use bench::bytes::Bytes;
 use bench::proved;
 use bench::workloads::{Workload, all, files};
-use peer::{Answer, Verdict, WORK_WORDS};
+use peer::{Answer, CELL_WORDS, Verdict, WORK_WORDS};
 use std::hint::black_box;
 use std::time::{Duration, Instant};
 
@@ -73,19 +75,37 @@ fn begins(workload: &Workload, run: Run) -> Measured<'_> {
     })
 }
 
+/// Runs a workload by its bytes again and again, each time over the store that the last run left.
+fn by_bytes<'a>(workload: &'a Workload, bytes: &'a Bytes<'a>) -> Measured<'a> {
+    let (mut arguments, mut store) = (workload.arguments.clone(), workload.store.clone());
+    let mut slots = vec![0; WORK_WORDS];
+    Box::new(move || {
+        let (cells, _) = store.as_chunks_mut::<CELL_WORDS>();
+        let answer = bytes.run(black_box(&arguments), cells, &mut slots, workload.budget);
+        assert_eq!(answer.number, 0, "{}", workload.name);
+        if workload.again {
+            arguments[0] = answer.value;
+        }
+    })
+}
+
 /// Measures and prints the time of one step of a workload: the least time of a whole run beyond the least of one cut after a step.
 fn steps(workload: &Workload) {
     let (mut store, mut work) = (workload.store.clone(), vec![0; WORK_WORDS]);
     let answer = peer::run(&workload.file, &workload.arguments, &mut store, &mut work, workload.budget);
+    let bytes = Bytes::new(&workload.file);
+    let mut store = workload.store.clone();
+    assert_eq!(answer, bytes.run(&workload.arguments, store.as_chunks_mut().0, &mut work, workload.budget), "{}", workload.name);
     let of = |run: Run| [Some(runs(workload, run)), Some(begins(workload, run))];
     let [peer, begun] = of(peer::run);
     let [proved, proved_begun] = if proved::PRESENT { of(proved::run) } else { [None, None] };
-    let mut measured = [proved, proved_begun, peer, begun];
+    let mut measured = [proved, proved_begun, peer, begun, Some(by_bytes(workload, &bytes))];
     let rounds = rounds(&mut measured);
     let step = |index: usize| (least(&rounds, index) - least(&rounds, index + 1)) / f64::from(answer.steps - 1);
-    let (proved, peer) = (step(0), step(2));
+    let (proved, peer, plain) = (step(0), step(2), least(&rounds, 4) / f64::from(answer.steps));
     let name = format!("  of it, each of {} steps", answer.steps);
-    println!("{name:<42} {:>11} {:>11} {:>11} {:>8}", cell(proved, 2), cell(peer, 2), "-", cell(proved / peer, 2));
+    print!("{name:<42} {:>11} {:>11} {:>11}", cell(proved, 2), cell(peer, 2), cell(plain, 2));
+    println!(" {:>8} {:>8} {:>8}", cell(proved / peer, 2), cell(proved / plain, 2), cell(peer / plain, 2));
 }
 
 /// The nanoseconds of each thing in each round, in turn.

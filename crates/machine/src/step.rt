@@ -481,15 +481,15 @@ pub(crate) fn go(
     ensures { λ r. ⌜ ((f : Fit (now (file .entry)) (now (decl .entry)) (now (store .entry)) (top s (now (work .entry)))) → answerOf r (now (store .exit)) ≡ run (f .file) limit (f .st) 0 (s .most)) × (drop 4096 (now (work .exit)) ≡ drop 4096 (now (work .entry))) ⌝ }
 {
     let mut cur = s;
-    let mut steps: u32 = 0;
-    while steps < limit {
+    let mut left = limit;
+    while 0 < left {
         cur = step(file, decl, store, work, cur);
-        steps += 1;
+        left -= 1;
         if cur.number != State::GOING {
             return Ran {
                 number: cur.number,
                 value: cur.value,
-                steps,
+                steps: limit - left,
                 place: place_of(cur) as u32,
                 frames: cur.most as u32,
             };
@@ -498,7 +498,7 @@ pub(crate) fn go(
     Ran {
         number: 32,
         value: 0,
-        steps,
+        steps: limit,
         place: cur.frame.at as u32,
         frames: cur.most as u32,
     }

@@ -55,13 +55,13 @@ module _ (file : File) where
   ends-at (S.AR p o x y t) hs store under = tt
   ends-at (S.IF p s t u) hs store under = if-at p (word (held hs s)) _ _
 
--- the state after n steps of a run that goes on: the rest of the run is the whole run
-abbrev pub Reached : (bytes decl store₀ : List ℕ) (c₀ : Top) (limit n : ℕ) (store : List ℕ) (c : Top) → Type 0
-Reached bytes decl store₀ c₀ limit n store c =
-    (f : Fit bytes decl store₀ c₀) → (g : Fit bytes decl store c) × (run (f .file) limit (f .st) 0 (c₀ .state .most) ≡ run (g .file) (limit - n) (g .st) n (c .state .most))
+-- the state of a run that goes on, with so many steps left: the rest of the run is the whole run
+abbrev pub Reached : (bytes decl store₀ : List ℕ) (c₀ : Top) (limit left : ℕ) (store : List ℕ) (c : Top) → Type 0
+Reached bytes decl store₀ c₀ limit left store c =
+    (f : Fit bytes decl store₀ c₀) → (g : Fit bytes decl store c) × (run (f .file) limit (f .st) 0 (c₀ .state .most) ≡ run (g .file) left (g .st) (limit - left) (c .state .most))
 
-pub reached-start : (bytes decl store : List ℕ) (c : Top) (limit : ℕ) → Reached bytes decl store c limit 0 store c
-reached-start bytes decl store c limit f = let e : limit ≡ limit - 0 = omega arith in (f, ap (λ k. run (f .file) k (f .st) 0 (c .state .most)) e)
+pub reached-start : (bytes decl store : List ℕ) (c : Top) (limit : ℕ) → Reached bytes decl store c limit limit store c
+reached-start bytes decl store c limit f = let e : 0 ≡ limit - limit = omega arith in (f, ap (λ n. run (f .file) limit (f .st) n (c .state .most)) e)
 
 module _ {bytes decl store store′ : List ℕ} {c c′ : Top} (g : Fit bytes decl store c) (s : Steps bytes decl store c store′ c′) where
   goes : (k n : ℕ) (r : Step) → step (g .file) (g .st) ≡ r → After (g .file) bytes (c .state .most) (g .st .store) store′ c′ r → c′ .state .number ≡ 99
@@ -103,28 +103,34 @@ module _ {bytes decl store store′ : List ℕ} {c c′ : Top} (g : Fit bytes de
   pub stop-small : (c′ .state .number ≡ 99 → ⊥) → (placeOf (c′ .state) ≤ 4096) × (c′ .state .most ≤ 32)
   stop-small z = small (step (g .file) (g .st)) refl (fit-sim g s) z
 
-module _ {bytes decl store₀ store store′ : List ℕ} {c₀ c c′ : Top} {limit n : ℕ} where
-  pub reached-next : Reached bytes decl store₀ c₀ limit n store c → Steps bytes decl store c store′ c′ → n < limit → c′ .state .number ≡ 99 → Reached bytes decl store₀ c₀ limit (n + 1) store′ c′
-  reached-next r s l z f =
-      let g = r f in
-      let k : limit - n ≡ suc (limit - (n + 1)) = omega arith in
-      let h = goes (g .0) s (limit - (n + 1)) n (step (g .0 .file) (g .0 .st)) refl (fit-sim (g .0) s) z in
-      (h .0, g .1 ∙ ap (λ k. run (g .0 .file) k (g .0 .st) n (c .state .most)) k ∙ h .1)
+-- one step of those left
+one-less : {left : ℕ} → 0 < left → left ≡ suc (left - 1)
+one-less l = omega arith
 
-  pub reached-stop : Reached bytes decl store₀ c₀ limit n store c → Steps bytes decl store c store′ c′ → n < limit → (c′ .state .number ≡ 99 → ⊥) → (f : Fit bytes decl store₀ c₀)
-      → answers (c′ .state .number) (c′ .state .value) (n + 1) (placeOf (c′ .state)) (c′ .state .most) store′ ≡ run (f .file) limit (f .st) 0 (c₀ .state .most)
-  reached-stop r s l z f =
-      let g = r f in
-      let k : limit - n ≡ suc (limit - (n + 1)) = omega arith in
-      sym (g .1 ∙ ap (λ k. run (g .0 .file) k (g .0 .st) n (c .state .most)) k ∙ stops (g .0) s (limit - (n + 1)) n (step (g .0 .file) (g .0 .st)) refl (fit-sim (g .0) s) z)
+one-more : {left limit : ℕ} → 0 < left → left ≤ limit → (limit - left) + 1 ≡ limit - (left - 1)
+one-more l m = omega arith
 
-module _ {bytes decl store₀ store : List ℕ} {c₀ c : Top} {limit n : ℕ} where
-  pub reached-end : Reached bytes decl store₀ c₀ limit n store c → n ≡ limit → (f : Fit bytes decl store₀ c₀)
-      → answers 32 0 n (c .state .frame .at) (c .state .most) store ≡ run (f .file) limit (f .st) 0 (c₀ .state .most)
+module _ {bytes decl store₀ store store′ : List ℕ} {c₀ c c′ : Top} {limit left : ℕ} (l : 0 < left) (m : left ≤ limit) where
+  pub reached-next : Reached bytes decl store₀ c₀ limit left store c → Steps bytes decl store c store′ c′ → c′ .state .number ≡ 99 → Reached bytes decl store₀ c₀ limit (left - 1) store′ c′
+  reached-next r s z f =
+      let g = r f in
+      let h = goes (g .0) s (left - 1) (limit - left) (step (g .0 .file) (g .0 .st)) refl (fit-sim (g .0) s) z in
+      (h .0, g .1 ∙ ap (λ k. run (g .0 .file) k (g .0 .st) (limit - left) (c .state .most)) (one-less l) ∙ h .1 ∙ ap (λ n. run (h .0 .file) (left - 1) (h .0 .st) n (c′ .state .most)) (one-more l m))
+
+  pub reached-stop : Reached bytes decl store₀ c₀ limit left store c → Steps bytes decl store c store′ c′ → (c′ .state .number ≡ 99 → ⊥) → (f : Fit bytes decl store₀ c₀)
+      → answers (c′ .state .number) (c′ .state .value) (limit - (left - 1)) (placeOf (c′ .state)) (c′ .state .most) store′ ≡ run (f .file) limit (f .st) 0 (c₀ .state .most)
+  reached-stop r s z f =
+      let g = r f in
+      let e = stops (g .0) s (left - 1) (limit - left) (step (g .0 .file) (g .0 .st)) refl (fit-sim (g .0) s) z in
+      ap (λ n. answers (c′ .state .number) (c′ .state .value) n (placeOf (c′ .state)) (c′ .state .most) store′) (sym (one-more l m)) ∙ sym (g .1 ∙ ap (λ k. run (g .0 .file) k (g .0 .st) (limit - left) (c .state .most)) (one-less l) ∙ e)
+
+module _ {bytes decl store₀ store : List ℕ} {c₀ c : Top} {limit : ℕ} where
+  pub reached-end : (left : ℕ) → Reached bytes decl store₀ c₀ limit left store c → left ≡ 0 → (f : Fit bytes decl store₀ c₀)
+      → answers 32 0 limit (c .state .frame .at) (c .state .most) store ≡ run (f .file) limit (f .st) 0 (c₀ .state .most)
   unfolding run
-  reached-end r e f =
+  reached-end left r e f =
       let g = r f in
-      let k : limit - n ≡ 0 = omega arith in
+      let n : limit ≡ limit - left = omega arith in
       let p = g .0 .represents .here in
       let q = g .0 .represents .same in
-      (λ i. answers 32 0 n (p i) (c .state .most) (q i)) ∙ sym (g .1 ∙ ap (λ k. run (g .0 .file) k (g .0 .st) n (c .state .most)) k)
+      (λ i. answers 32 0 (n i) (p i) (c .state .most) (q i)) ∙ sym (g .1 ∙ ap (λ k. run (g .0 .file) k (g .0 .st) (limit - left) (c .state .most)) e)
