@@ -27,6 +27,9 @@ pub past-rows : (i : ℕ) → 15 ≤ i → row 0 0 0 ≡ rowAt i
 unfolding rowAt
 past-rows i h = sym (List·getD-eq-default rows (row 0 0 0) h)
 
+pub next-place : (k i : ℕ) → k ≤ i → (i ≡ k → ⊥) → k + 1 ≤ i
+next-place k i h ne = omega (arith, h, ne)
+
 -- what is found in a table is one of its entries, or the default
 pub data Each (P : Mark → Type 0) (w : ℕ) : List (ℕ × Mark) → Type 0 where
   none : Each P w []
