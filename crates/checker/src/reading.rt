@@ -5,7 +5,7 @@ ghost use Prim.Native.Nat.{_+_, _*_, _%_, _<_, _≤_};
 ghost use lib.ListN.{length};
 ghost use Rattle.standing.specs.Bytes.{byteAt};
 ghost use Rattle.checker.specs.ReadingBytes.{bindsOf, room, knownArity, knownCount, atomField, makeFields, callFields, openFields, sumFields, fieldsAt, followsAt, limited, nodeAt, moreOf, branchFields, branchAt, numberAt, smallBytes, conAt, funAt, expectAt, finishAt, endAt};
-ghost use Rattle.checker.specs.Reads.{From, ReadsTerm, ReadsBranches};
+ghost use Rattle.checker.specs.Reads.{From, ReadsTerm, ReadsBranches, InRow};
 ghost use Rattle.checker.specs.Opening.{tableWith, ConsRead, Headed, FunsRead, Bodied, ReadsBody, Ends, FileRead};
 use meaning::AR;
 use meaning::AT;
@@ -286,6 +286,35 @@ fn read_node(file: &[u8], decl: &[u32; 128], at: usize, p: Path) -> Node
     }
 }
 
+// Reads a few nodes in a row, each followed by the next alone, and answers the last: so a long row takes few calls of `read_term`.
+fn read_row(file: &[u8], decl: &[u32; 128], start: usize, p: Path) -> Node
+    requires { ⌜ (start ≤ length (now file)) × (p .slots ≤ 32) × (p .nodes ≤ 64) ⌝ }
+    ensures { λ r. ⌜ InRow (now (file .entry)) (now (decl .entry)) start p r ⌝ }
+{
+    let mut at = start;
+    let mut path = p;
+    let mut k: usize = 0;
+    while k < 16 {
+        let n = read_node(file, decl, at, path);
+        let follows = n.then;
+        let inner = n.path;
+        match follows {
+            Then::One(next) => {
+                at = next;
+                path = inner;
+                k += 1;
+            }
+            _ => {
+                return n;
+            }
+        }
+    }
+    Node {
+        then: Then::One(at),
+        path: path,
+    }
+}
+
 // How many slots a branch of arity k binds.
 fn bound_by(k: usize, credit: usize) -> usize
     requires { ⌜ (k ≤ 4) × (credit ≤ 1) ⌝ }
@@ -335,7 +364,7 @@ fn read_term(file: &[u8], decl: &[u32; 128], at: usize, p: Path) -> Read
     requires { ⌜ (at ≤ length (now file)) × (p .slots ≤ 32) × (p .nodes ≤ 64) ⌝ }
     ensures { λ r. ⌜ From (now (file .entry)) (at + 1) r × ReadsTerm (now (file .entry)) (now (decl .entry)) at p r ⌝ }
 {
-    let n = read_node(file, decl, at, p);
+    let n = read_row(file, decl, at, p);
     let follows = n.then;
     let inner = n.path;
     match follows {
