@@ -9,7 +9,6 @@ use Rattle.meaning.specs.declared.How.{How}
 use Rattle.meaning.specs.declared.How.the-variants.{Never, Tail, Waits}
 use Rattle.meaning.specs.Choice.{pick}
 use Rattle.meaning.specs.Marks.{rowAt, findMark}
-use Rattle.meaning.specs.Sets.{upto}
 use Rattle.meaning.specs.Calls.{Square, entry, stronger}
 use Rattle.standing.specs.Bytes.{byteAt, markAt, paramsIn, bodyIn}
 use Rattle.checker.specs.Bits.{filled}
@@ -25,22 +24,23 @@ countIn table i = pick (ltb i 128) (getD table i 0 % 256) 0
 unfoldable pub listed : (table : List ℕ) → (mark named : ℕ) → ℕ
 listed table m c = pick (eqb m 6) (countIn table c) (pick (eqb m 7) (countIn table (64 + c)) (pick (eqb m 8) (countIn table (64 + c)) 0))
 
-unfoldable pub all-fields : List ℕ
-all-fields = upto 16 (λ m. rowAt m .fields)
-
 unfoldable pub size : (table : List ℕ) → (mark named : ℕ) → ℕ
 size table m c = 2 + rowAt m .fields + listed table m c
 
 unfoldable pub follow : (mark branches : ℕ) → ℕ
 follow m k = pick (eqb m 4) 0 (pick (eqb m 8) 0 (pick (eqb m 14) 2 (pick (eqb m 9) k (pick (eqb m 10) k 1))))
 
-unfoldable pub note : List How → (mark named : ℕ) → List How
-note row m c = set row c (stronger (getD row c Never) (how-of m))
+-- a call noted in a row
+abbrev pub noted-in : List How → (callee : ℕ) → How → List How
+noted-in row g h = set row g (stronger (getD row g Never) h)
 
--- one record; `go` scans on
+unfoldable pub note : List How → (mark named : ℕ) → List How
+note row m c = noted-in row c (how-of m)
+
+-- one record, of three bytes or more; `go` scans on
 unfoldable pub scanStep : (bytes table : List ℕ) → (go : (at left : ℕ) → List How → List How) → (at left : ℕ) → List How → List How
 scanStep bytes table go at left row =
-    pick (leb (length bytes) at) row (pick (eqb left 0) row
+    pick (leb (length bytes) (at + 2)) row (pick (eqb left 0) row
     (go (at + size table (findMark (markAt bytes at)) (byteAt bytes (at + 2)))
     (left - 1 + follow (findMark (markAt bytes at)) (byteAt bytes (at + 3)))
     (note row (findMark (markAt bytes at)) (byteAt bytes (at + 2)))))

@@ -1,20 +1,11 @@
 // Which function calls which and how, as a square, and the verdict that follows from it: flat with its depth, or stacked.
-use meaning::AR;
-use meaning::AT;
-use meaning::BD;
-use meaning::BR;
 use meaning::CL;
-use meaning::CN;
-use meaning::FN;
 use meaning::GV;
 use meaning::How;
 use meaning::IF;
 use meaning::LK;
 use meaning::MK;
-use meaning::ND;
-use meaning::NU;
 use meaning::OP;
-use meaning::OTHER;
 use meaning::TL;
 use meaning::Verdict;
 use meaning::find_mark;
@@ -34,7 +25,7 @@ ghost use Rattle.meaning.specs.Answers.{told};
 ghost use Rattle.standing.specs.Bytes.{byteAt, markAt, paramsIn, bodyIn};
 ghost use Rattle.standing.specs.Table.{Declared};
 ghost use Rattle.checker.specs.Bits.{bitsOf, filled, member, closure, onward, Settles};
-ghost use Rattle.checker.specs.Scan.{how-of, countIn, all-fields, listed, follow, size, rowIn, squareIn, goes, Counted, Within};
+ghost use Rattle.checker.specs.Scan.{noted-in, countIn, listed, follow, size, rowIn, squareIn, goes, Counted, Within};
 
 // ---- the records of a body
 
@@ -62,11 +53,11 @@ fn narrow(word: usize) -> u16
 
 // The place in the table of the mark that stands here.
 fn mark_at(file: &[u8], at: usize) -> usize
-    requires { ⌜ at < 4096 ⌝ }
-    ensures { λ r. ⌜ (r ≡ findMark (markAt (now (file .entry)) at)) × (r < 16) ⌝ }
+    requires { ⌜ at + 2 ≤ length (now file) ⌝ }
+    ensures { λ r. ⌜ r ≡ findMark (markAt (now (file .entry)) at) ⌝ }
 {
-    let high = byte_at(file, at);
-    let low = byte_at(file, at + 1);
+    let high = wide(file[at]);
+    let low = wide(file[at + 1]);
     find_mark(narrow(high * 256 + low))
 }
 
@@ -79,7 +70,7 @@ fn count_in(decl: &[u32; 128], i: usize) -> usize
 
 // A word of the table as an index.
 fn whole(word: u32) -> usize
-    ensures { λ r. ⌜ r ≡ word ⌝ }
+    ensures { λ r. ⌜ (r ≡ word) × (r < 4294967296) ⌝ }
 {
     word as usize
 }
@@ -87,7 +78,7 @@ fn whole(word: u32) -> usize
 // The place of a body's term.
 fn body(decl: &[u32; 128], f: usize) -> usize
     requires { ⌜ f < 32 ⌝ }
-    ensures { λ r. ⌜ r ≡ bodyIn (now (decl .entry)) f ⌝ }
+    ensures { λ r. ⌜ (r ≡ bodyIn (now (decl .entry)) f) × (r < 4294967296) ⌝ }
 {
     whole(decl[96 + f])
 }
@@ -120,73 +111,38 @@ fn listed(decl: &[u32; 128], m: usize, named: usize) -> usize
 }
 
 // The count of a mark's fixed fields.
-fn fields_of(m: usize) -> u8
-    ensures { λ r. ⌜ r ≡ rowAt m .fields ⌝ }
+fn fields_of(m: usize) -> usize
+    ensures { λ r. ⌜ (r ≡ rowAt m .fields) × (r < 256) ⌝ }
 {
     let row = mark_row(m);
-    row.fields
-}
-
-// The counts of every mark's fixed fields, looked up in the table of marks once a file.
-fn fields() -> [u8; 16]
-    ensures { λ r. ⌜ r ≡ all-fields ⌝ }
-{
-    [
-        fields_of(CN),
-        fields_of(FN),
-        fields_of(BD),
-        fields_of(ND),
-        fields_of(GV),
-        fields_of(AT),
-        fields_of(MK),
-        fields_of(CL),
-        fields_of(TL),
-        fields_of(OP),
-        fields_of(LK),
-        fields_of(BR),
-        fields_of(NU),
-        fields_of(AR),
-        fields_of(IF),
-        fields_of(OTHER),
-    ]
+    wide(row.fields)
 }
 
 // The bytes of a record, its mark included.
-fn size(decl: &[u32; 128], fixed: &[u8; 16], m: usize, named: usize) -> usize
-    requires { ⌜ (m < 16) × (named < 256) × (now fixed ≡ all-fields) ⌝ }
+fn size(decl: &[u32; 128], m: usize, named: usize) -> usize
+    requires { ⌜ named < 256 ⌝ }
     ensures { λ r. ⌜ (r ≡ size (now (decl .entry)) m named) × (2 ≤ r) × (r < 600) ⌝ }
 {
     let slots = listed(decl, m, named);
-    2 + wide(fixed[m]) + slots
+    2 + fields_of(m) + slots
 }
 
 // How many terms follow a record.
-fn follow(m: usize, branches: usize) -> usize
-    requires { ⌜ branches < 256 ⌝ }
-    ensures { λ r. ⌜ (r ≡ follow m branches) × (r < 256) ⌝ }
+fn follow(file: &[u8], at: usize, m: usize) -> usize
+    requires { ⌜ at < 4096 ⌝ }
+    ensures { λ r. ⌜ (r ≡ follow m (byteAt (now (file .entry)) (at + 3))) × (r < 256) ⌝ }
 {
     match m {
         GV => 0,
         TL => 0,
         IF => 2,
-        OP => branches,
-        LK => branches,
+        OP => byte_at(file, at + 3),
+        LK => byte_at(file, at + 3),
         _ => 1,
     }
 }
 
 // ---- the square
-
-// How a record calls.
-fn how_of(m: usize) -> How
-    ensures { λ r. ⌜ r ≡ how-of m ⌝ }
-{
-    match m {
-        CL => How::Waits,
-        TL => How::Tail,
-        _ => How::Never,
-    }
-}
 
 // A call that waits wins over a tail call.
 fn stronger(a: How, b: How) -> How
@@ -203,29 +159,43 @@ fn stronger(a: How, b: How) -> How
     }
 }
 
+// A row with one call more; a callee past the row is none.
+fn noted(row: [How; 32], named: usize, how: How) -> [How; 32]
+    ensures { λ r. ⌜ r ≡ noted-in row named how ⌝ }
+{
+    let mut out = row;
+    if named < 32 {
+        let was = out[named];
+        let now = stronger(was, how);
+        out[named] = now;
+    }
+    out
+}
+
 // A function's row: the records of its body stand one after the other, until no term is left to begin.
-fn row_of(file: &[u8], decl: &[u32; 128], fixed: &[u8; 16], f: usize) -> [How; 32]
-    requires { ⌜ (length (now file) ≤ 4096) × (f < 32) × (now fixed ≡ all-fields) ⌝ }
+fn row_of(file: &[u8], decl: &[u32; 128], f: usize) -> [How; 32]
+    requires { ⌜ (length (now file) ≤ 4096) × (f < 32) ⌝ }
     ensures { λ r. ⌜ r ≡ rowIn (now (file .entry)) (now (decl .entry)) f ⌝ }
 {
     let mut row = [How::Never; 32];
     let mut at = body(decl, f);
     let mut left: usize = 1;
-    while at < file.len() {
+    while at + 2 < file.len() {
         if left == 0 {
             return row;
         }
         let m = mark_at(file, at);
-        let named = byte_at(file, at + 2);
-        let how = how_of(m);
-        if named < 32 {
-            let was = row[named];
-            let now = stronger(was, how);
-            row[named] = now;
+        let named = wide(file[at + 2]);
+        if m == CL {
+            let more = noted(row, named, How::Waits);
+            row = more;
         }
-        let branches = byte_at(file, at + 3);
-        left = left - 1 + follow(m, branches);
-        at = at + size(decl, fixed, m, named);
+        if m == TL {
+            let more = noted(row, named, How::Tail);
+            row = more;
+        }
+        left = left - 1 + follow(file, at, m);
+        at = at + size(decl, m, named);
     }
     row
 }
@@ -235,11 +205,10 @@ fn square_of(file: &[u8], decl: &[u32; 128], count: usize) -> [[How; 32]; 32]
     requires { ⌜ (length (now file) ≤ 4096) × (count ≤ 32) ⌝ }
     ensures { λ r. ⌜ r ≡ squareIn (now (file .entry)) (now (decl .entry)) count ⌝ }
 {
-    let fixed = fields();
     let mut square = [[How::Never; 32]; 32];
     let mut f: usize = 0;
     while f < count {
-        let row = row_of(file, decl, &fixed, f);
+        let row = row_of(file, decl, f);
         square[f] = row;
         f += 1;
     }

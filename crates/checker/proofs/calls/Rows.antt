@@ -6,7 +6,7 @@ use native.Mathlib.Omega.{arith}
 use native.Mathlib.Decide.{decLt}
 use lib.ListN.{length, getD, set, replicate}
 use lib.Seq.{set-getD, getD-set-other}
-use borrow.Author.Tests.{lt-ltb}
+use borrow.Author.Tests.{lt-ltb, ne-eqb}
 use Rattle.meaning.specs.declared.Call.{Call}
 use Rattle.meaning.specs.declared.How.{How}
 use Rattle.meaning.specs.declared.How.the-variants.{Never, Tail, Waits}
@@ -20,13 +20,10 @@ use Rattle.standing.specs.Bytes.{byteAt, markAt, arityIn}
 use Rattle.standing.specs.Stands.{Stands, Each, arity, count}
 use Rattle.standing.specs.Stands as T
 use Rattle.standing.specs.Table.{Declared}
-use Rattle.checker.specs.Scan.{how-of, countIn, listed, size, follow, note, scanFrom, no-row, rowIn}
+use Rattle.checker.specs.Scan.{how-of, countIn, listed, size, follow, noted-in, note, scanFrom, no-row, rowIn}
 use Rattle.checker.proofs.calls.Scanning.{scan-turn, scan-stop, scan-end}
 
 -- calls noted in a row
-abbrev pub noted-in : List How → (callee : ℕ) → How → List How
-noted-in row g h = set row g (stronger (getD row g Never) h)
-
 unfoldable pub fill-row : List Call → List How → List How
 fill-row [] row = row
 fill-row (c ∷ cs) row = fill-row cs (noted-in row (c .callee) (c .how))
@@ -41,6 +38,19 @@ weakest Never = refl
 weakest Tail = refl
 weakest Waits = refl
 
+-- a record's mark and the call that is noted for it
+pub note-wait : (row : List How) (m c : ℕ) → m ≡ 7 → noted-in row c Waits ≡ note row m c
+unfolding note how-of pick
+note-wait row m c e = rw e
+
+pub note-tail : (row : List How) (m c : ℕ) → m ≡ 8 → noted-in row c Tail ≡ note row m c
+unfolding note how-of pick
+note-tail row m c e = rw e
+
+pub note-none : (row : List How) (m c : ℕ) → (m ≡ 7 → ⊥) → (m ≡ 8 → ⊥) → row ≡ note row m c
+unfolding note how-of pick
+note-none row m c h k = rw (ne-eqb m 7 h, ne-eqb m 8 k) (sym (ap (set row c) (weakest (getD row c Never)) ∙ set-getD row c Never))
+
 module _ (file : File) (bytes table : List ℕ) (declared : Declared file bytes table) where
   abbrev S : (at left : ℕ) → List How → List How
   S at left row = scanFrom bytes table at left row
@@ -49,7 +59,7 @@ module _ (file : File) (bytes table : List ℕ) (declared : Declared file bytes 
   named p = byteAt bytes (p + 2)
 
   -- a record by its mark's place in the table, its size and the terms that follow it
-  turn : (p left : ℕ) (row : List How) (m n k : ℕ) (h : How) → m ≡ findMark (markAt bytes p) → p < length bytes → how-of m ≡ h → size table m (named p) ≡ n
+  turn : (p left : ℕ) (row : List How) (m n k : ℕ) (h : How) → m ≡ findMark (markAt bytes p) → p + 2 < length bytes → how-of m ≡ h → size table m (named p) ≡ n
       → follow m (byteAt bytes (p + 3)) ≡ k → S p (suc left) row ≡ S (p + n) (left + k) (noted-in row (named p) h)
   unfolding note
   turn p left row m n k h e l a b c =
@@ -57,7 +67,7 @@ module _ (file : File) (bytes table : List ℕ) (declared : Declared file bytes 
       scan-turn bytes table p (suc left) row m (named p) (byteAt bytes (p + 3)) e refl refl l (λ z. omega arith) ∙ rw (a, b, c, q)
 
   -- one that calls nothing
-  quiet : (p left : ℕ) (row : List How) (m n k : ℕ) → m ≡ findMark (markAt bytes p) → p < length bytes → how-of m ≡ Never → size table m (named p) ≡ n
+  quiet : (p left : ℕ) (row : List How) (m n k : ℕ) → m ≡ findMark (markAt bytes p) → p + 2 < length bytes → how-of m ≡ Never → size table m (named p) ≡ n
       → follow m (byteAt bytes (p + 3)) ≡ k → S p (suc left) row ≡ S (p + n) (left + k) row
   quiet p left row m n k e l a b c =
       turn p left row m n k Never e l a b c ∙ ap (S (p + n) (left + k)) (ap (set row (named p)) (weakest (getD row (named p) Never)) ∙ set-getD row (named p) Never)
@@ -129,9 +139,9 @@ module _ (file : File) (bytes table : List ℕ) (declared : Declared file bytes 
         ∙ scanned-all r f left (fill-row (calls t f) row) ∙ ap (S next left) (sym (fill-row-append (calls t f) (calls-branches bs f) row))
 
   finished : (at : ℕ) (row : List How) → S at 0 row ≡ row
-  finished at row = go (decLt at (length bytes))
+  finished at row = go (decLt (at + 2) (length bytes))
     where
-      go : Dec (at < length bytes) → S at 0 row ≡ row
+      go : Dec (at + 2 < length bytes) → S at 0 row ≡ row
       go (yes l) = scan-stop bytes table at 0 row l refl
       go (no l) = scan-end bytes table at 0 row (omega arith)
 

@@ -8,37 +8,9 @@ use lib.Dec.{leb, eqb}
 use borrow.Author.Tests.{le-leb, lt-leb, eq-eqb, ne-eqb}
 use Rattle.meaning.specs.declared.How.{How}
 use Rattle.meaning.specs.Choice.{pick}
-use Rattle.meaning.specs.Marks.{Mark, CN, FN, BD, ND, GV, AT, MK, CL, TL, OP, LK, BR, NU, AR, IF, other, rowAt, numberOf, markOf, findMark}
+use Rattle.meaning.specs.Marks.{findMark}
 use Rattle.standing.specs.Bytes.{byteAt, markAt}
-use Rattle.theory.proofs.Bools.{upto-at}
-use Rattle.checker.specs.Scan.{all-fields, size, follow, note, scanStep, scan, scanFrom}
-
-number-small : (m : Mark) → numberOf m < 16
-unfolding numberOf
-number-small CN = omega arith
-number-small FN = omega arith
-number-small BD = omega arith
-number-small ND = omega arith
-number-small GV = omega arith
-number-small AT = omega arith
-number-small MK = omega arith
-number-small CL = omega arith
-number-small TL = omega arith
-number-small OP = omega arith
-number-small LK = omega arith
-number-small BR = omega arith
-number-small NU = omega arith
-number-small AR = omega arith
-number-small IF = omega arith
-number-small other = omega arith
-
-pub mark-small : (w : ℕ) → findMark w < 16
-unfolding findMark
-mark-small w = number-small (markOf w)
-
-pub all-fields-at : (m : ℕ) → m < 16 → getD all-fields m 0 ≡ rowAt m .fields
-unfolding all-fields
-all-fields-at m l = upto-at 16 (λ i. rowAt i .fields) m 0 l
+use Rattle.checker.specs.Scan.{size, follow, note, scanStep, scan, scanFrom}
 
 size-least : (table : List ℕ) (m c : ℕ) → 2 ≤ size table m c
 unfolding size
@@ -54,13 +26,13 @@ module _ (bytes table : List ℕ) where
   step-same go₁ go₂ at left row h =
       let m = findMark (markAt bytes at) in
       let c = byteAt bytes (at + 2) in
-      ap (λ z. pick (leb (length bytes) at) row (pick (eqb left 0) row z))
+      ap (λ z. pick (leb (length bytes) (at + 2)) row (pick (eqb left 0) row z))
       (h (at + size table m c) (left - 1 + follow m (byteAt bytes (at + 3))) (note row m c) (omega (arith, size-least table m c)))
 
-  at-end : (n at left : ℕ) (row : List How) → length bytes ≤ at → scan n bytes table at left row ≡ row
+  at-end : (n at left : ℕ) (row : List How) → length bytes ≤ at + 2 → scan n bytes table at left row ≡ row
   unfolding scan scanStep pick
   at-end zero at left row h = refl
-  at-end (suc n) at left row h = rw (le-leb (length bytes) at h)
+  at-end (suc n) at left row h = rw (le-leb (length bytes) (at + 2) h)
 
   -- as many records as there are bytes left are enough
   scan-enough : (n m at left : ℕ) (row : List How) → length bytes ≤ at + n → length bytes ≤ at + m → scan n bytes table at left row ≡ scan m bytes table at left row
@@ -70,7 +42,7 @@ module _ (bytes table : List ℕ) where
   scan-enough (suc n) (suc m) at left row a b =
       step-same (λ x l r. scan n bytes table x l r) (λ x l r. scan m bytes table x l r) at left row (λ x l r h. scan-enough n m x l r (omega arith) (omega arith))
 
-  pub scan-end : (at left : ℕ) (row : List How) → length bytes ≤ at → scanFrom bytes table at left row ≡ row
+  pub scan-end : (at left : ℕ) (row : List How) → length bytes ≤ at + 2 → scanFrom bytes table at left row ≡ row
   unfolding scanFrom
   scan-end at left row h = at-end (length bytes - at) at left row h
 
@@ -82,13 +54,13 @@ module _ (bytes table : List ℕ) where
       ∙ step-same (λ x l r. scan (length bytes - at - 1) bytes table x l r) (λ x l r. scanFrom bytes table x l r) at left row
       (λ x l r k. scan-enough (length bytes - at - 1) (length bytes - x) x l r (omega arith) (omega arith))
 
-  pub scan-stop : (at left : ℕ) (row : List How) → at < length bytes → left ≡ 0 → scanFrom bytes table at left row ≡ row
+  pub scan-stop : (at left : ℕ) (row : List How) → at + 2 < length bytes → left ≡ 0 → scanFrom bytes table at left row ≡ row
   unfolding scanStep pick
-  scan-stop at left row h e = unroll at left row h ∙ rw (lt-leb (length bytes) at h, eq-eqb left 0 e)
+  scan-stop at left row h e = unroll at left row (omega arith) ∙ rw (lt-leb (length bytes) (at + 2) h, eq-eqb left 0 e)
 
   -- a record is passed over
   pub scan-turn : (at left : ℕ) (row : List How) (m c k : ℕ) → m ≡ findMark (markAt bytes at) → c ≡ byteAt bytes (at + 2) → k ≡ byteAt bytes (at + 3)
-      → at < length bytes → (left ≡ 0 → ⊥)
+      → at + 2 < length bytes → (left ≡ 0 → ⊥)
       → scanFrom bytes table at left row ≡ scanFrom bytes table (at + size table m c) (left - 1 + follow m k) (note row m c)
   unfolding scanStep pick
-  scan-turn at left row m c k p q r h n = unroll at left row h ∙ rw (lt-leb (length bytes) at h, ne-eqb left 0 n, p, q, r)
+  scan-turn at left row m c k p q r h n = unroll at left row (omega arith) ∙ rw (lt-leb (length bytes) (at + 2) h, ne-eqb left 0 n, p, q, r)

@@ -16,9 +16,9 @@ use Rattle.meaning.specs.Machine.{body-of}
 use Rattle.meaning.specs.Calls.{calls, calls-branches, calls-from, call, Square, entry, noted, fill, no-calls, square}
 use Rattle.standing.specs.Table.{Declared}
 use Rattle.checker.specs.Bits.{filled}
-use Rattle.checker.specs.Scan.{no-row, rowIn, squareIn, Counted, Within}
+use Rattle.checker.specs.Scan.{noted-in, no-row, rowIn, squareIn, Counted, Within}
 use Rattle.checker.proofs.calls.Filling.{fill-start, fill-in, filled-length, filled-at, filled-past}
-use Rattle.checker.proofs.calls.Rows.{noted-in, fill-row, fill-row-append, row-is, row-within}
+use Rattle.checker.proofs.calls.Rows.{fill-row, fill-row-append, row-is, row-within}
 
 fill-append : (a b : List Call) (sq : Square) → fill (a ++ b) sq ≡ fill b (fill a sq)
 unfolding fill

@@ -20,7 +20,7 @@ whole-requires c κs = search needs
 
 returns : tie.Need-returns
 unfolding countIn pick
-returns c = (simp (lt-ltb _ _ (c .before .before .if1 .taken)) (c .whole .ensures), omega (arith, c .whole .ensures))
+returns c = (simp (lt-ltb _ _ (c .before .before .if1 .taken)) (c .whole .ensures .0), omega (arith, c .whole .ensures .0))
 
 returns-2 : tie.Need-returns-2
 unfolding countIn pick

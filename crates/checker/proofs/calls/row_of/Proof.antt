@@ -3,67 +3,60 @@ use Rattle.checker.proofs.calls.row_of.Tie as tie
 use Rattle.checker.proofs.calls.row_of.Reads as reads
 use Rattle.checker.proofs.calls.row_of.Lts as lts
 use Rattle.checker.proofs.calls.body.Reads as body-reads
-use Rattle.checker.proofs.calls.byte_at.Reads as byte-at-reads
 use Rattle.checker.proofs.calls.follow.Reads as follow-reads
-use Rattle.checker.proofs.calls.how_of.Reads as how-of-reads
 use Rattle.checker.proofs.calls.mark_at.Reads as mark-at-reads
+use Rattle.checker.proofs.calls.noted.Reads as noted-reads
 use Rattle.checker.proofs.calls.size.Reads as size-reads
-use Rattle.checker.proofs.calls.stronger.Reads as stronger-reads
+use Rattle.checker.proofs.calls.wide.Reads as wide-reads
 use borrow.Author.Needs.{needs}
-use Prim.Native.Nat.{ℕ, zero, suc, _+_, _-_, _*_, _≤_, _<_}
-use mathlib.Core.Path.{_≡_, refl, sym, ap, ap₂, _∙_}
+use borrow.Author.Needs.{needs}
+use Prim.Native.Nat.{_+_, _-_, _*_, _≤_, _<_}
+use mathlib.Core.Path.{_≡_, refl, sym, ap, _∙_}
 use mathlib.Core.Logic.{⊎-elim}
-use mathlib.Core.List.{List}
 use native.Mathlib.Omega.{arith}
-use lib.ListN.{length, getD, set, length-set}
-use lib.Seq.{set-out}
-use Rattle.meaning.specs.declared.How.the-variants.{Never}
-use Rattle.meaning.specs.Calls.{stronger}
-use Rattle.checker.specs.Scan.{how-of, size, follow, note, scanFrom, no-row, rowIn}
+use lib.ListN.{length, length-set}
+use Rattle.meaning.specs.declared.How.the-variants.{Tail}
+use Rattle.standing.specs.Bytes.{byteAt}
+use Rattle.checker.specs.Scan.{size, follow, noted-in, note, scanFrom, no-row, rowIn}
 use Rattle.checker.proofs.calls.Scanning.{scan-stop, scan-end, scan-turn}
+use Rattle.checker.proofs.calls.Rows.{note-wait, note-tail, note-none}
 
 abbrev Inv-loop : tie.InvT-loop
-Inv-loop file decl fixed f row₀ at₀ left₀ row at left = (left ≤ 1 + 256 * at) × (length row ≡ 32) × (rowIn file decl f ≡ scanFrom file decl at left row)
+Inv-loop file decl f row₀ at₀ left₀ row at left = (at < 4294972000) × (left ≤ 1 + 256 * at) × (length row ≡ 32) × (rowIn file decl f ≡ scanFrom file decl at left row)
 
 abbrev μ-loop : tie.MeasureT-loop
-μ-loop file decl fixed f row₀ at₀ left₀ row at left = length file - at
+μ-loop file decl f row₀ at₀ left₀ row at left = length file - at
 
 body-requires : tie.Need-body-requires Inv-loop μ-loop
 body-requires c κs = search needs
 
 loop-holds : tie.Need-loop-holds Inv-loop μ-loop
 unfolding rowIn no-row
-loop-holds c = (omega arith, refl, ap (λ a. scanFrom (c .before .before .args .file .now) (c .before .before .args .decl .now) a 1 no-row) (sym (c .body .ensures)))
+loop-holds c = (omega (arith, c .body .ensures .1), omega arith, refl, ap (λ a. scanFrom (c .before .before .args .file .now) (c .before .before .args .decl .now) a 1 no-row) (sym (c .body .ensures .0)))
+
+add-loop : tie.Need-add-loop Inv-loop μ-loop
+add-loop c = search needs
 
 returns : tie.Need-returns Inv-loop μ-loop
-returns c = sym (c .before .before .loop .inv .2 ∙ scan-stop (c .before .before .before .before .before .args .file .now) (c .before .before .before .before .before .args .decl .now) (c .before .before .loop .at) (c .before .before .loop .left) (c .before .before .loop .row) (omega arith) (c .if1 .taken))
+returns c = sym (c .before .before .loop .inv .3 ∙ scan-stop (c .before .before .before .before .before .args .file .now) (c .before .before .before .before .before .args .decl .now) (c .before .before .loop .at) (c .before .before .loop .left) (c .before .before .loop .row) (omega arith) (c .if1 .taken))
 
 mark-at-requires : tie.Need-mark-at-requires Inv-loop μ-loop
 mark-at-requires c κs = omega arith
 
-add-byte-at : tie.Need-add-byte-at Inv-loop μ-loop
-add-byte-at c = search needs
+add-wide : tie.Need-add-wide Inv-loop μ-loop
+add-wide c = search needs
 
-byte-at-requires : tie.Need-byte-at-requires Inv-loop μ-loop
-byte-at-requires c κs = search needs
+shared-slice-read-wide : tie.Need-shared-slice-read-wide Inv-loop μ-loop
+shared-slice-read-wide c = search needs
 
-how-of-requires : tie.Need-how-of-requires Inv-loop μ-loop
-how-of-requires c κs = search needs
+wide-requires : tie.Need-wide-requires Inv-loop μ-loop
+wide-requires c κs = search needs
 
-array-copy-out-was : tie.Need-array-copy-out-was Inv-loop μ-loop
-array-copy-out-was c = search needs
+noted-requires : tie.Need-noted-requires Inv-loop μ-loop
+noted-requires c κs = search needs
 
-stronger-requires : tie.Need-stronger-requires Inv-loop μ-loop
-stronger-requires c κs = search needs
-
-array-set-from-row : tie.Need-array-set-from-row Inv-loop μ-loop
-array-set-from-row c = search needs
-
-add-byte-at-2 : tie.Need-add-byte-at-2 Inv-loop μ-loop
-add-byte-at-2 c = search needs
-
-byte-at-requires-2 : tie.Need-byte-at-requires-2 Inv-loop μ-loop
-byte-at-requires-2 c κs = search needs
+noted-requires-2 : tie.Need-noted-requires-2 Inv-loop μ-loop
+noted-requires-2 c κs = search needs
 
 sub-left : tie.Need-sub-left Inv-loop μ-loop
 sub-left c = search needs
@@ -75,7 +68,7 @@ add-left : tie.Need-add-left Inv-loop μ-loop
 add-left c = search needs
 
 size-requires : tie.Need-size-requires Inv-loop μ-loop
-size-requires c κs = (c .before .before .before .before .before .mark-at .ensures .1, c .before .before .before .before .byte-at .ensures .1, c .before .before .before .before .before .before .before .before .before .before .before .pre .2)
+size-requires c κs = c .before .before .before .wide .ensures .1
 
 add-at : tie.Need-add-at Inv-loop μ-loop
 add-at c = search needs
@@ -90,20 +83,23 @@ loop-again c =
     let table = c .before .before .before .before .before .before .before .before .before .before .before .before .args .decl .now in
     let at = c .before .before .before .before .before .before .before .before .before .loop .at in
     let left = c .before .before .before .before .before .before .before .before .before .loop .left in
+    let row = c .before .before .before .before .before .before .before .before .before .loop .row in
     let m = c .before .before .before .before .before .before .mark-at .result in
-    let named = c .before .before .before .before .before .byte-at .result in (
+    let named = c .before .before .before .before .wide .result in
+    let e =
+    ⊎-elim
+    (λ w. ⊎-elim (λ v. absurd (omega (arith, w .0 .taken, v .0 .taken))) (λ v. v .1 ∙ w .2 ∙ w .1 .ensures ∙ note-wait row m named (w .0 .taken)) (c .before .before .if3 .came))
+    (λ w. ⊎-elim (λ v. v .2 ∙ v .1 .ensures ∙ ap (λ r. noted-in r named Tail) (w .1) ∙ note-tail row m named (v .0 .taken)) (λ v. v .1 ∙ w .1 ∙ note-none row m named (w .0 .left) (v .0 .left)) (c .before .before .if3 .came))
+    (c .before .before .before .if2 .came) in (
+      omega (arith, c .size .ensures .2),
       omega (arith, c .size .ensures .1, c .before .follow .ensures .1),
-      ⊎-elim (λ w. ap length (w .3) ∙ length-set (c .before .before .before .before .before .before .before .before .before .loop .row) named (w .2 .result) ∙ c .before .before .before .before .before .before .before .before .before .loop .inv .1) (λ w. ap length (w .1) ∙ c .before .before .before .before .before .before .before .before .before .loop .inv .1) (c .before .before .before .if2 .came),
-      c .before .before .before .before .before .before .before .before .before .loop .inv .2 ∙ scan-turn bytes table at left (c .before .before .before .before .before .before .before .before .before .loop .row) m named (c .before .before .byte-at2 .result) (c .before .before .before .before .before .before .mark-at .ensures .0) (c .before .before .before .before .before .byte-at .ensures .0) (c .before .before .byte-at2 .ensures .0) (omega arith) (c .before .before .before .before .before .before .before .if1 .left)
-          ∙ rw (c .before .follow .ensures .0, c .size .ensures .0) (ap (scanFrom bytes table (at + size table m named) (left - 1 + follow m (c .before .before .byte-at2 .result)))
-          (⊎-elim
-          (λ w. sym (w .3 ∙ ap (set (c .before .before .before .before .before .before .before .before .before .loop .row) named) (w .2 .ensures ∙ ap (stronger (getD (c .before .before .before .before .before .before .before .before .before .loop .row) named Never)) (c .before .before .before .before .how-of .ensures))))
-          (λ w. set-out (c .before .before .before .before .before .before .before .before .before .loop .row) named (stronger (getD (c .before .before .before .before .before .before .before .before .before .loop .row) named Never) (how-of m)) (omega (arith, c .before .before .before .before .before .before .before .before .before .loop .inv .1)) ∙ sym (w .1))
-          (c .before .before .before .if2 .came))),
+      ap length e ∙ length-set row named _ ∙ c .before .before .before .before .before .before .before .before .before .loop .inv .2,
+      c .before .before .before .before .before .before .before .before .before .loop .inv .3 ∙ scan-turn bytes table at left row m named (byteAt bytes (at + 3)) (c .before .before .before .before .before .before .mark-at .ensures) (c .before .before .before .before .wide .ensures .0) refl (omega arith) (c .before .before .before .before .before .before .before .if1 .left)
+          ∙ rw (c .before .follow .ensures .0, c .size .ensures .0) (ap (scanFrom bytes table (at + size table m named) (left - 1 + follow m (byteAt bytes (at + 3)))) (sym e)),
     )
 
 returns-2 : tie.Need-returns-2 Inv-loop μ-loop
-returns-2 c = sym (c .before .loop .inv .2 ∙ scan-end (c .before .before .before .before .args .file .now) (c .before .before .before .before .args .decl .now) (c .before .loop .at) (c .before .loop .left) (c .before .loop .row) (omega arith))
+returns-2 c = sym (c .before .loop .inv .3 ∙ scan-end (c .before .before .before .before .args .file .now) (c .before .before .before .before .args .decl .now) (c .before .loop .at) (c .before .loop .left) (c .before .loop .row) (omega arith))
 
 pub row-of-spec : {M : Type 1} → statement M
 row-of-spec =
@@ -113,16 +109,14 @@ row-of-spec =
     μ-loop
     body-requires
     loop-holds
+    add-loop
     returns
     mark-at-requires
-    add-byte-at
-    byte-at-requires
-    how-of-requires
-    array-copy-out-was
-    stronger-requires
-    array-set-from-row
-    add-byte-at-2
-    byte-at-requires-2
+    add-wide
+    shared-slice-read-wide
+    wide-requires
+    noted-requires
+    noted-requires-2
     sub-left
     follow-requires
     add-left

@@ -2,11 +2,11 @@ use Rattle.checker.proofs.calls.square_of.Statement.{statement}
 use Rattle.checker.proofs.calls.square_of.Tie as tie
 use Rattle.checker.proofs.calls.square_of.Reads as reads
 use Rattle.checker.proofs.calls.square_of.Lts as lts
-use Rattle.checker.proofs.calls.fields.Reads as fields-reads
 use Rattle.checker.proofs.calls.row_of.Reads as row-of-reads
 use borrow.Author.Needs.{needs}
-use Prim.Native.Nat.{ℕ, _-_, _≤_, _<_}
-use mathlib.Core.Path.{_≡_, refl, ap, ap₂, _∙_}
+use borrow.Author.Needs.{needs}
+use Prim.Native.Nat.{_-_, _≤_}
+use mathlib.Core.Path.{_≡_, refl, ap₂, _∙_}
 use native.Mathlib.Omega.{arith}
 use lib.ListN.{set}
 use Rattle.checker.specs.Bits.{filled}
@@ -14,20 +14,17 @@ use Rattle.checker.specs.Scan.{no-row, rowIn, squareIn}
 use Rattle.checker.proofs.calls.Filling.{fill-start, fill-in}
 
 abbrev Inv-loop : tie.InvT-loop
-Inv-loop file decl count fixed square₀ f₀ square f = (f ≤ count) × (square ≡ filled no-row f (λ i. rowIn file decl i))
+Inv-loop file decl count square₀ f₀ square f = (f ≤ count) × (square ≡ filled no-row f (λ i. rowIn file decl i))
 
 abbrev μ-loop : tie.MeasureT-loop
-μ-loop file decl count fixed square₀ f₀ square f = count - f
-
-fields-requires : tie.Need-fields-requires Inv-loop μ-loop
-fields-requires c κs = search needs
+μ-loop file decl count square₀ f₀ square f = count - f
 
 loop-holds : tie.Need-loop-holds Inv-loop μ-loop
 unfolding no-row
-loop-holds c = (omega arith, fill-start no-row (λ i. rowIn (c .before .before .args .file .now) (c .before .before .args .decl .now) i))
+loop-holds c = (omega arith, fill-start no-row (λ i. rowIn (c .before .args .file .now) (c .before .args .decl .now) i))
 
 row-of-requires : tie.Need-row-of-requires Inv-loop μ-loop
-row-of-requires c κs = (c .before .before .before .before .before .pre .0, omega arith, c .before .before .before .fields .ensures)
+row-of-requires c κs = (c .before .before .before .pre .0, omega arith)
 
 mul-square : tie.Need-mul-square Inv-loop μ-loop
 mul-square c = search needs
@@ -43,13 +40,13 @@ loop-less c = search needs
 
 loop-again : tie.Need-loop-again Inv-loop μ-loop
 loop-again c =
-    let g = rowIn (c .before .before .before .before .before .before .args .file .now) (c .before .before .before .before .before .before .args .decl .now) in
-    let f = c .before .before .before .loop .f in
-    (omega arith, ap₂ (λ l x. set l f x) (c .before .before .before .loop .inv .1) (c .row-of .ensures) ∙ fill-in no-row f g (g f) (omega arith) refl)
+    let g = rowIn (c .before .before .before .before .args .file .now) (c .before .before .before .before .args .decl .now) in
+    let f = c .before .before .loop .f in
+    (omega arith, ap₂ (λ l x. set l f x) (c .before .before .loop .inv .1) (c .row-of .ensures) ∙ fill-in no-row f g (g f) (omega arith) refl)
 
 returns : tie.Need-returns Inv-loop μ-loop
 unfolding squareIn
-returns c = let e : c .before .loop .f ≡ c .before .before .before .before .args .count = omega arith in c .before .loop .inv .1 ∙ rw e
+returns c = let e : c .before .loop .f ≡ c .before .before .before .args .count = omega arith in c .before .loop .inv .1 ∙ rw e
 
 pub square-of-spec : {M : Type 1} → statement M
 square-of-spec =
@@ -57,7 +54,6 @@ square-of-spec =
     (tie.spec
     Inv-loop
     μ-loop
-    fields-requires
     loop-holds
     row-of-requires
     mul-square
