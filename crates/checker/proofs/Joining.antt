@@ -23,8 +23,8 @@ use Rattle.standing.proofs.Faults.{check-file-inside}
 use Rattle.checker.specs.declared.Judged.{Judged}
 use Rattle.checker.specs.declared.ownership.Checked.{Checked}
 use Rattle.checker.specs.declared.ownership.Checked.the-variants.{Next, Fault}
-use Rattle.checker.specs.Opening.{Ends, FileRead}
-use Rattle.checker.specs.declared.reading.Heads.{Heads}
+use Rattle.checker.specs.Opening.{Ends}
+use Rattle.checker.specs.declared.reading.Reached.{Reached}
 use Rattle.checker.specs.OwnershipReady.{spanned, ReadyFile, JudgedFile}
 use Rattle.checker.specs.Judging.{refusal, acceptance, judged, judgedOf}
 
@@ -51,28 +51,28 @@ judged-is : (f : List ℕ) (o : Outcome File) → accepted f ≡ o → judged o 
 unfolding judgedOf
 judged-is f o e = sym (ap judged e)
 
-module _ (f : List ℕ) (r : Heads) (e : FileRead f r) where
+module _ (f d : List ℕ) (r : Reached) (e : Ends f d (r .count) (r .at) (r .number)) where
   pub ends-place : (r .number ≡ 0 → ⊥) → r .at < 4294967296
-  unfolding FileRead Ends
+  unfolding Ends
   ends-place n = go e
     where
-      go : Ends f (r .decl) (r .funs) (r .at) (r .number) → r .at < 4294967296
+      go : Ends f d (r .count) (r .at) (r .number) → r .at < 4294967296
       go (inl h) = absurd (n (h .0))
       go (inr h) = omega (arith, h .2)
 
   pub ends-refused : (r .number ≡ 0 → ⊥) → refusal (r .number) (r .at) ≡ judgedOf f
-  unfolding FileRead Ends
+  unfolding Ends
   ends-refused n = go e
     where
-      go : Ends f (r .decl) (r .funs) (r .at) (r .number) → refusal (r .number) (r .at) ≡ judgedOf f
+      go : Ends f d (r .count) (r .at) (r .number) → refusal (r .number) (r .at) ≡ judgedOf f
       go (inl h) = absurd (n (h .0))
       go (inr h) = judged-is f (refuse (r .number) (r .at)) (accepted-unread f (r .number) (r .at) (h .1))
 
-  pub ends-whole : r .number ≡ 0 → Whole f (r .decl) (r .funs)
-  unfolding FileRead Ends
+  pub ends-whole : r .number ≡ 0 → Whole f d (r .count)
+  unfolding Ends
   ends-whole z = go e
     where
-      go : Ends f (r .decl) (r .funs) (r .at) (r .number) → Whole f (r .decl) (r .funs)
+      go : Ends f d (r .count) (r .at) (r .number) → Whole f d (r .count)
       go (inl h) = record { file = h .1; reads = h .2; table = h .3; many = h .4 }
       go (inr h) = absurd (omega (arith, h .0))
 

@@ -12,7 +12,6 @@ use Rattle.standing.specs.Table.{con-words, con-end, fun-words, fun-end, filled
 use Rattle.checker.specs.declared.reading.Read.{Read}
 use Rattle.checker.specs.declared.reading.Read.the-variants.{Next, Fault}
 use Rattle.checker.specs.declared.reading.Reached.{Reached}
-use Rattle.checker.specs.declared.reading.Heads.{Heads}
 use Rattle.checker.specs.ReadingBytes.{path, knownCount, numberAt, expectAt}
 use Rattle.checker.specs.Reads.{Declares, ReadsTerm}
 
@@ -92,6 +91,3 @@ unfoldable pub Ends : (f d : List ℕ) → (count at number : ℕ) → Type 0
 Ends f d count at number =
     ((number ≡ 0) × (file : File) × (read f ≡ ok file) × (d ≡ tableOf file) × (length (file .functions) ≡ count))
     ⊎ ((0 < number) × (read f ≡ refuse number at) × (at ≤ 4096))
-
-unfoldable pub FileRead : List ℕ → Heads → Type 0
-FileRead f r = Ends f (r .decl) (r .funs) (r .at) (r .number)

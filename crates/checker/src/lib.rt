@@ -37,12 +37,12 @@ fn refused(number: u32, place: usize) -> Judged
 pub fn judge(file: &[u8]) -> Judged
     ensures { λ r. ⌜ r ≡ judgedOf (now (file .entry)) ⌝ }
 {
-    let h = read_file(file);
+    let mut table: [u32; 128] = [255; 128];
+    let h = read_file(file, &mut table);
     if h.number != 0 {
         return refused(h.number, h.at);
     }
-    let table = h.decl;
-    match check_bodies(file, &table, h.funs) {
+    match check_bodies(file, &table, h.count) {
         Checked::Fault(number, place) => refused(number, place),
         Checked::Next(end) => Judged {
             number: 0,
@@ -60,6 +60,5 @@ pub fn check(file: &[u8]) -> Verdict
     if j.number != 0 {
         return Verdict::Refused(j.number, j.place);
     }
-    let table = j.table;
-    shape_of(file, &table)
+    shape_of(file, &j.table)
 }

@@ -2,11 +2,11 @@
 ghost use mathlib.Core.Path.{_≡_};
 ghost use mathlib.Core.List.{[]};
 ghost use Prim.Native.Nat.{_+_, _*_, _%_, _<_, _≤_};
-ghost use lib.ListN.{length};
+ghost use lib.ListN.{length, replicate};
 ghost use Rattle.standing.specs.Bytes.{byteAt};
 ghost use Rattle.checker.specs.ReadingBytes.{bindsOf, room, knownArity, knownCount, atomField, makeFields, callFields, openFields, sumFields, fieldsAt, followsAt, limited, nodeAt, moreOf, branchFields, branchAt, numberAt, smallBytes, conAt, funAt, expectAt, finishAt, endAt};
 ghost use Rattle.checker.specs.Reads.{From, ReadsTerm, ReadsBranches, InRow};
-ghost use Rattle.checker.specs.Opening.{tableWith, ConsRead, Headed, FunsRead, Bodied, ReadsBody, Ends, FileRead};
+ghost use Rattle.checker.specs.Opening.{tableWith, ConsRead, Headed, FunsRead, Bodied, ReadsBody, Ends};
 use meaning::AR;
 use meaning::AT;
 use meaning::BD;
@@ -520,10 +520,10 @@ fn read_end(file: &[u8], at: usize) -> Read
 }
 
 // So many records are read and reading stands at a place, with number 0; or number is the answer that refuses the file there.
-struct Reached {
-    count: usize,
-    at: usize,
-    number: u32,
+pub(crate) struct Reached {
+    pub count: usize,
+    pub at: usize,
+    pub number: u32,
 }
 
 // The constructors; each one's word goes into the table.
@@ -689,34 +689,19 @@ fn read_records(file: &[u8], decl: &mut [u32; 128]) -> Reached
     read_bodies(file, decl, funs.at, funs.count)
 }
 
-// What a file declares, and how many functions: word c < 64 a constructor's arity, word 64 + f a function's count of parameters, each with
-// 256 times the place of the first field (255: not declared), word 96 + f the place of its body's term. Or number is the answer that
-// refuses the file, and at its place.
-pub(crate) struct Heads {
-    pub decl: [u32; 128],
-    pub funs: usize,
-    pub at: usize,
-    pub number: u32,
-}
-
-// The whole file: its declarations, or the answer 1 to 6 that refuses it.
-pub(crate) fn read_file(file: &[u8]) -> Heads
-    ensures { λ r. ⌜ FileRead (now (file .entry)) r ⌝ }
+// The whole file, with what it declares in a table of 128 words and the count of its functions: word c < 64 is a constructor's arity, word
+// 64 + f a function's count of parameters, each with 256 times the place of the first field (255: not declared), word 96 + f the place of
+// its body's term. Or number is the answer 1 to 6 that refuses the file, and at its place.
+pub(crate) fn read_file(file: &[u8], decl: &mut [u32; 128]) -> Reached
+    requires { ⌜ now decl ≡ replicate 128 255 ⌝ }
+    ensures { λ r. ⌜ Ends (now (file .entry)) (now (decl .exit)) (r .count) (r .at) (r .number) ⌝ }
 {
-    let mut decl: [u32; 128] = [255; 128];
     if BYTES < file.len() {
-        return Heads {
-            decl: decl,
-            funs: 0,
+        return Reached {
+            count: 0,
             at: 0,
             number: 1,
         };
     }
-    let r = read_records(file, &mut decl);
-    Heads {
-        decl: decl,
-        funs: r.count,
-        at: r.at,
-        number: r.number,
-    }
+    read_records(file, decl)
 }

@@ -11,13 +11,13 @@ judge-requires : tie.Need-judge-requires
 judge-requires c κs = search needs
 
 returns : tie.Need-returns
-returns c = judged-refused _ (c .before .before .judge .ensures) (c .if1 .taken)
+returns c = judged-refused _ (c .before .judge .ensures) (c .if1 .taken)
 
 shape-of-requires : tie.Need-shape-of-requires
-shape-of-requires c κs = let a = judged-accepts _ (c .before .before .before .before .judge .ensures) (c .before .before .if1 .left) in (a .file, accepts-declared _ (c .before .before .before .before .judge .ensures) a)
+shape-of-requires c κs = let a = judged-accepts _ (c .before .before .before .judge .ensures) (c .before .before .if1 .left) in (a .file, accepts-declared _ (c .before .before .before .judge .ensures) a)
 
 returns-2 : tie.Need-returns-2
-returns-2 c = accepts-told _ (c .before .before .before .before .before .judge .ensures) (judged-accepts _ (c .before .before .before .before .before .judge .ensures) (c .before .before .before .if1 .left)) (c .shape-of .ensures)
+returns-2 c = accepts-told _ (c .before .before .before .before .judge .ensures) (judged-accepts _ (c .before .before .before .before .judge .ensures) (c .before .before .before .if1 .left)) (c .shape-of .ensures)
 
 pub check-spec : {M : Type 1} → statement M
 check-spec = tie.close (tie.spec judge-requires returns shape-of-requires returns-2)

@@ -3,20 +3,17 @@ use Rattle.checker.proofs.reading.read_file.Statement.{statement}
 use Rattle.checker.proofs.reading.read_file.Tie as tie
 use Rattle.checker.proofs.reading.read_file.Reads as reads
 use Rattle.checker.proofs.reading.read_file.Lts as lts
-use mathlib.Core.Path.{refl, sym}
-use Rattle.checker.specs.Opening.{FileRead}
+use mathlib.Core.Path.{refl, sym, _∙_}
 use Rattle.checker.proofs.reading.Tabled.{table-blank}
 use Rattle.checker.proofs.reading.Filed.{ends-long}
 
 returns : tie.Need-returns
-unfolding FileRead
 returns c = ends-long _ _ _ (c .if1 .taken)
 
 read-records-requires : tie.Need-read-records-requires
-read-records-requires c κs = (c .before .if1 .left, sym (table-blank 128 refl))
+read-records-requires c κs = (c .before .if1 .left, c .before .before .before .pre ∙ sym (table-blank 128 refl))
 
 returns-2 : tie.Need-returns-2
-unfolding FileRead
 returns-2 c = c .read-records .ensures
 
 pub read-file-spec : {M : Type 1} → statement M
