@@ -1,5 +1,5 @@
 -- What the pieces of `run` come to together: what was judged, the sizes, the start and the steps give `runOf`. Assumes nothing.
-use Prim.Native.Nat.{ℕ, zero, suc, _%_, _≤_, _<_}
+use Prim.Native.Nat.{ℕ, zero, suc, _+_, _-_, _/_, _%_, _≤_, _<_}
 use mathlib.Core.Bool.{Bool, true, false}
 use mathlib.Core.List.{List, _++_}
 use mathlib.Core.Path.{_≡_, refl, sym, ap, _∙_, subst}
@@ -25,31 +25,16 @@ use Rattle.theory.proofs.Running.{refusal, refused-file, refused-size, refused-
 use Rattle.standing.specs.Bytes.{paramsIn}
 use Rattle.standing.specs.Table.{Declared}
 use Rattle.machine.specs.declared.step.Ran.{Ran}
-use Rattle.machine.specs.StartArea.{outcome}
+use Rattle.machine.specs.StartArea.{outcome, cleared}
 use Rattle.machine.specs.Represents.{Begun}
 use Rattle.machine.specs.Steps.{answerOf}
 use Rattle.checker.specs.declared.Judged.{Judged}
 use Rattle.checker.specs.Judging.{judgedOf}
 use Rattle.checker.proofs.Joining.{Accepts, judged-refuses, accepts-declared}
 use Rattle.machine.specs.Running.{unfitOf, Opened, steppedBy}
+use Rattle.machine.proofs.start.Cleared.{cleared-length, cleared-zero, wiped-cleared}
 
--- a list wiped twice, and what lies behind
-drop-wiped : (n : ℕ) (l : List ℕ) → drop n (wiped n l) ≡ drop n l
-unfolding wiped
-drop-wiped n l =
-    let zeros : List ℕ = replicate n 0 in
-    let e : length zeros ≡ n = length-replicate n 0 in
-    subst (λ k. drop k (zeros ++ drop n l) ≡ drop n l) e (drop-append-seam zeros (drop n l))
-
-zeros-at : (n q : ℕ) (rest : List ℕ) → q < n → getD (replicate n 0 ++ rest) q 0 ≡ 0
-zeros-at zero q rest l = absurd (omega arith)
-zeros-at (suc n) zero rest l = refl
-zeros-at (suc n) (suc q) rest l = zeros-at n q rest (omega arith)
-
-wiped-at : (n q : ℕ) (l : List ℕ) → q < n → getD (wiped n l) q 0 ≡ 0
-unfolding wiped
-wiped-at n q l h = zeros-at n q (drop n l) h
-
+-- lists that are alike behind
 wiped-alike : (n : ℕ) (a b : List ℕ) → drop n a ≡ drop n b → wiped n a ≡ wiped n b
 unfolding wiped
 wiped-alike n a b e = ap (λ d. replicate n 0 ++ d) e
@@ -92,9 +77,10 @@ module _ {bytes decl args store work : List ℕ} (o : Opened bytes decl args sto
           let b : n ≡ 21 → ⊥ = λ z. start-21 (o .file) (length work) args store .0 (subst (λ k. start (o .file) (length work) args store ≡ refuse k 0) z s) .1 counted in
           omega (arith, a, b)
 
-  pub begin-refused : (budget : ℕ) {n : ℕ} {r : Answer} {w : List ℕ} → Meant n → (n ≡ 0 → ⊥) → r ≡ refusal n 0 → w ≡ wiped 4096 work
+  pub begin-refused : (budget : ℕ) (w₁ : List ℕ) {n : ℕ} {r : Answer} {w : List ℕ} → Meant n → (n ≡ 0 → ⊥) → r ≡ refusal n 0 → wiped 4096 w₁ ≡ wiped 4096 work → w ≡ wiped 4096 w₁
       → ended r store w ≡ runOf bytes args store work budget
-  begin-refused budget {n} m z e q =
+  begin-refused budget w₁ {n} m z e k p =
+      let q = p ∙ k in
       let s : start (o .file) (length work) args store ≡ refuse n 0 = sym (m (o .file) (o .declared)) ∙ outcome-some n z in
       let b = late n s in
       (λ i. ended (e i) store (q i)) ∙ refused-start bytes args store work budget (o .file) n (b .0) (b .1) (o .accepts) s
@@ -102,27 +88,36 @@ module _ {bytes decl args store work : List ℕ} (o : Opened bytes decl args sto
   starts : {n : ℕ} → Meant n → n ≡ 0 → start (o .file) (length work) args store ≡ ok tt
   starts {n} m z = sym (m (o .file) (o .declared)) ∙ outcome-none n z
 
-  pub begin-begun : {n : ℕ} {w : List ℕ} → Meant n → n ≡ 0 → length w ≡ length work → w ≡ wiped 4096 work → Begun bytes decl args store w
-  begin-begun m z l q =
+  -- the words that keep the ends of terms
+  abbrev ends : ℕ
+  ends = length bytes / 2 + 1
+
+  pub ends-fit : 1088 + (length bytes / 2 + 1) ≤ 4096
+  ends-fit = omega (arith, o .declared .size)
+
+  pub begin-begun : (w₁ : List ℕ) {n : ℕ} {w : List ℕ} → Meant n → n ≡ 0 → length w₁ ≡ length work → w ≡ cleared 1088 (length bytes / 2 + 1) w₁ → Begun bytes decl args store w
+  begin-begun w₁ m z l q =
       record {
         file = o .file;
         declared = o .declared;
         accepts = o .accepts;
         many = counted;
         started = accepted-started bytes (o .file) (o .accepts) (length work) args store (starts m z);
-        room = omega (arith, o .room, l);
-        clear = λ i a b. ap (λ x. getD x i 0) q ∙ wiped-at 4096 i work (omega arith);
+        room = subst (λ x. 4096 ≤ length x) (sym q) (omega (arith, o .room, l, cleared-length 1088 ends w₁));
+        clear = λ i a b.
+            (let e : 1088 + (i - 1088) ≡ i = omega arith in
+            ap (λ x. getD x i 0) q ∙ ap (λ j. getD (cleared 1088 ends w₁) j 0) (sym e) ∙ cleared-zero 1088 ends w₁ (i - 1088) (omega (arith, o .room, l, ends-fit)) (omega arith));
       }
 
-  pub begin-ran : (budget : ℕ) (w₂ : List ℕ) {n limit : ℕ} {w₁ w₃ store′ : List ℕ} {r : Ran} {a : Answer} → Meant n → n ≡ 0 → limit ≡ budget-of budget
-      → length w₁ ≡ length work → w₁ ≡ wiped 4096 work
-      → ((b : Begun bytes decl args store w₁) → answerOf r store′ ≡ run (b .file) limit (begins (b .file) args store) 0 1)
-      → drop 4096 w₂ ≡ drop 4096 w₁ → w₃ ≡ wiped 4096 w₂ → a ≡ steppedBy r → ended a store′ w₃ ≡ runOf bytes args store work budget
+  pub begin-ran : (budget : ℕ) (w₁ w₂ : List ℕ) {n limit : ℕ} {w w₃ store′ : List ℕ} {r : Ran} {a : Answer} → Meant n → n ≡ 0 → limit ≡ budget-of budget
+      → length w₁ ≡ length work → wiped 4096 w₁ ≡ wiped 4096 work → w ≡ cleared 1088 (length bytes / 2 + 1) w₁
+      → ((b : Begun bytes decl args store w) → answerOf r store′ ≡ run (b .file) limit (begins (b .file) args store) 0 1)
+      → drop 4096 w₂ ≡ drop 4096 w → w₃ ≡ wiped 4096 w₂ → a ≡ steppedBy r → ended a store′ w₃ ≡ runOf bytes args store work budget
   unfolding begin-begun
-  begin-ran budget w₂ {limit = limit} {w₁ = w₁} {w₃ = w₃} {store′ = store′} {r = r} m z l k q runs d e t =
-      let same : w₃ ≡ wiped 4096 work = e ∙ wiped-alike 4096 w₂ work (d ∙ ap (drop 4096) q ∙ drop-wiped 4096 work) in
+  begin-ran budget w₁ w₂ {limit = limit} {w = w} {w₃ = w₃} {store′ = store′} {r = r} m z l k v q runs d e t =
+      let same : w₃ ≡ wiped 4096 work = e ∙ wiped-alike 4096 w₂ w d ∙ ap (wiped 4096) q ∙ wiped-cleared 1088 ends w₁ ends-fit ∙ v in
       let ran : answerOf r store′ ≡ run (o .file) (budget-of budget) (begins (o .file) args store) 0 1 =
-      runs (begin-begun m z k q) ∙ (λ i. run (o .file) (l i) (begins (o .file) args store) 0 1) in
+      runs (begin-begun w₁ m z k q) ∙ (λ i. run (o .file) (l i) (begins (o .file) args store) 0 1) in
       (λ i. ended (t i) store′ (same i)) ∙ executed bytes args store work budget (o .file) (o .accepts) (starts m z) (answerOf r store′) ran
 
 -- the sizes, by the test

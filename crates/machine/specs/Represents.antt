@@ -1,5 +1,5 @@
 -- How the words stand for a state of the defined machine. Assumes nothing.
-use Prim.Native.Nat.{ℕ, suc, _+_, _*_, _≤_, _<_, max}
+use Prim.Native.Nat.{ℕ, suc, _+_, _*_, _/_, _≤_, _<_, max}
 use mathlib.Core.List.{List, [], _∷_}
 use mathlib.Core.Path.{_≡_}
 use lib.ListN.{length, getD}
@@ -86,4 +86,4 @@ pub record Begun (bytes decl args store work : List ℕ) : Type 0 where
   pub many : length args ≡ length (function-of file 0 .parameters)
   pub started : Started file args store
   pub room : 4096 ≤ length work
-  pub clear : (q : ℕ) → 1088 ≤ q → q < 3136 → getD work q 0 ≡ 0
+  pub clear : (q : ℕ) → 1088 ≤ q → q < 1088 + (length bytes / 2 + 1) → getD work q 0 ≡ 0

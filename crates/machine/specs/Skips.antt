@@ -74,9 +74,10 @@ module _ (bytes decl : List ℕ) where
     here : {at n k r : ℕ} → n ≡ suc k → byteAt bytes (at + 2) ≡ con → r ≡ at + 3 → Found con at n r
     later : {at n k m r : ℕ} → n ≡ suc k → (byteAt bytes (at + 2) ≡ con → ⊥) → Skips (at + 3) m → Found con m k r → Found con at n r
 
--- What the work area keeps of the terms that were passed over: a word from 1088 on that is a * 8192 + next says that the term at a ends at next.
+-- What the work area keeps of the terms that were passed over: a word from 1088 on, one for two bytes of the file, that is a * 8192 + next says that the term at a
+-- ends at next.
 abbrev pub Known : (bytes decl work : List ℕ) → Type 0
-Known bytes decl work = (q : ℕ) → 1088 ≤ q → q < 3136 → 0 < getD work q 0 → Skips bytes decl (getD work q 0 / 8192) (getD work q 0 % 8192)
+Known bytes decl work = (q : ℕ) → 1088 ≤ q → q < 1088 + (length bytes / 2 + 1) → 0 < getD work q 0 → Skips bytes decl (getD work q 0 / 8192) (getD work q 0 % 8192)
 
 abbrev pub EndNeeds : (bytes decl work : List ℕ) → Type 0
 EndNeeds bytes decl work = Known bytes decl work × (length bytes ≤ 4096) × (4096 ≤ length work)

@@ -3,8 +3,10 @@ mod frame;
 mod start;
 mod step;
 
+use crate::frame::Frame;
 use crate::frame::Store;
-use crate::start::start_check;
+use crate::start::clear;
+use crate::start::start_answer;
 use crate::start::wipe;
 use crate::step::Ran;
 use crate::step::execute;
@@ -101,10 +103,12 @@ fn begin(
     requires { ⌜ Opened (now file) (now decl) (now args) (now store) (now work) ⌝ }
     ensures { λ r. ⌜ ended r (now (store .exit)) (now (work .exit)) ≡ runOf (now (file .entry)) (now (args .entry)) (now (store .entry)) (now (work .entry)) budget ⌝ }
 {
-    let n = start_check(file, decl, args, store, work);
+    let n = start_answer(file, decl, args, store, work);
     if n != 0 {
+        wipe(work);
         return refused(n, 0);
     }
+    clear(work, Frame::ENDS, file.len() / 2 + 1);
     let limit = limit_of(budget);
     let r = execute(file, decl, args, store, work, limit);
     wipe(work);

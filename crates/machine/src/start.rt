@@ -300,9 +300,9 @@ fn name_args(
     t
 }
 
-// The counts of n cells are zero.
-fn clear(work: &mut [u32], base: usize, n: usize)
-    requires { ⌜ (base ≤ 2048) × (n ≤ 1024) × (4096 ≤ length (now work)) ⌝ }
+// The n words from a place on are zero.
+pub(crate) fn clear(work: &mut [u32], base: usize, n: usize)
+    requires { ⌜ (base + n ≤ 4096) × (4096 ≤ length (now work)) ⌝ }
     ensures { λ _. ⌜ now (work .exit) ≡ cleared base n (now (work .entry)) ⌝ }
 {
     let mut i: usize = 0;
@@ -461,20 +461,4 @@ pub(crate) fn start_answer(
         return 24;
     }
     0
-}
-
-// The same, and the first 4,096 words of the work area are left zero.
-pub(crate) fn start_check(
-    file: &[u8],
-    decl: &[u32; 128],
-    args: &[u32],
-    store: &[u32],
-    work: &mut [u32],
-) -> u32
-    requires { ⌜ Passed (now file) (now decl) (now args) (now store) (now work) ⌝ }
-    ensures { λ r. ⌜ Meant (now (file .entry)) (now (decl .entry)) (now (args .entry)) (now (store .entry)) (now (work .entry)) r × (now (work .exit) ≡ wiped 4096 (now (work .entry))) ⌝ }
-{
-    let r = start_answer(file, decl, args, store, work);
-    wipe(work);
-    r
 }

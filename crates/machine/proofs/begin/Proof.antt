@@ -5,15 +5,18 @@ use Rattle.machine.proofs.begin.Reads as reads
 use Rattle.machine.proofs.begin.Lts as lts
 use Rattle.machine.proofs.limit_of.Reads as limit-of-reads
 use Rattle.machine.proofs.refused.Reads as refused-reads
-use Rattle.machine.proofs.start.start_check.Reads as start-check-reads
+use Rattle.machine.proofs.start.clear.Reads as clear-reads
+use Rattle.machine.proofs.start.start_answer.Reads as start-answer-reads
 use Rattle.machine.proofs.start.wipe.Reads as wipe-reads
 use Rattle.machine.proofs.step.execute.Reads as execute-reads
 use Rattle.machine.proofs.stepped.Reads as stepped-reads
-use mathlib.Core.Path.{refl}
 use Rattle.machine.proofs.Running.{begin-refused, begin-begun, begin-ran}
 
-start-check-requires : tie.Need-start-check-requires
-start-check-requires c κs = search needs
+start-answer-requires : tie.Need-start-answer-requires
+start-answer-requires c κs = search needs
+
+wipe-requires : tie.Need-wipe-requires
+wipe-requires c κs = search needs
 
 refused-requires : tie.Need-refused-requires
 refused-requires c κs = search needs
@@ -25,16 +28,22 @@ same-length-2 : tie.Need-same-length-2
 same-length-2 c = search needs
 
 returns : tie.Need-returns
-returns c = begin-refused (c .before .before .before .before .before .before .before .before .before .before .before .pre) _ (c .before .before .before .before .start-check .ensures .0) (c .before .if1 .taken) (c .refused .ensures) (c .before .before .before .before .start-check .ensures .1)
+returns c = begin-refused (c .before .before .before .before .before .before .before .before .before .before .before .before .before .before .before .pre) _ _ (c .before .before .before .before .before .before .before .before .start-answer .ensures .0) (c .before .before .before .before .before .if1 .taken) (c .refused .ensures) (c .before .before .before .before .before .before .before .before .start-answer .ensures .1) (c .before .before .before .wipe .ensures)
+
+add-clear : tie.Need-add-clear
+add-clear c = search needs
+
+clear-requires : tie.Need-clear-requires
+clear-requires c κs = search needs
 
 limit-of-requires : tie.Need-limit-of-requires
 limit-of-requires c κs = search needs
 
 execute-requires : tie.Need-execute-requires
-execute-requires c κs = begin-begun (c .before .before .before .before .before .before .before .before .before .before .before .before .before .pre) (c .before .before .before .before .before .before .start-check .ensures .0) (c .before .before .before .if1 .left) (search needs) (c .before .before .before .before .before .before .start-check .ensures .1)
+execute-requires c κs = begin-begun (c .before .before .before .before .before .before .before .before .before .before .before .before .before .before .before .before .before .pre) _ (c .before .before .before .before .before .before .before .before .before .before .start-answer .ensures .0) (c .before .before .before .before .before .before .before .if1 .left) (c .before .before .before .before .before .before .before .before .before .before .start-answer .kept .1 .1 .1 .1 .0) (c .before .before .before .before .before .clear .ensures)
 
-wipe-requires : tie.Need-wipe-requires
-wipe-requires c κs = search needs
+wipe-requires-2 : tie.Need-wipe-requires-2
+wipe-requires-2 c κs = search needs
 
 stepped-requires : tie.Need-stepped-requires
 stepped-requires c κs = search needs
@@ -46,20 +55,23 @@ same-length-4 : tie.Need-same-length-4
 same-length-4 c = search needs
 
 returns-2 : tie.Need-returns-2
-returns-2 c = begin-ran (c .before .before .before .before .before .before .before .before .before .before .before .before .before .before .before .before .before .before .before .before .before .before .before .pre) _ _ (c .before .before .before .before .before .before .before .before .before .before .before .before .before .before .before .before .start-check .ensures .0) (c .before .before .before .before .before .before .before .before .before .before .before .before .before .if1 .left) (c .before .before .before .before .before .before .before .before .before .before .before .before .limit-of .ensures) (search needs) (c .before .before .before .before .before .before .before .before .before .before .before .before .before .before .before .before .start-check .ensures .1) (c .before .before .before .before .before .before .before .before .before .execute .ensures .0) (c .before .before .before .before .before .before .before .before .before .execute .ensures .1) (c .before .before .before .wipe .ensures) (c .stepped .ensures)
+returns-2 c = begin-ran (c .before .before .before .before .before .before .before .before .before .before .before .before .before .before .before .before .before .before .before .before .before .before .before .before .before .before .before .pre) _ _ _ (c .before .before .before .before .before .before .before .before .before .before .before .before .before .before .before .before .before .before .before .before .start-answer .ensures .0) (c .before .before .before .before .before .before .before .before .before .before .before .before .before .before .before .before .before .if1 .left) (c .before .before .before .before .before .before .before .before .before .before .before .before .limit-of .ensures) (c .before .before .before .before .before .before .before .before .before .before .before .before .before .before .before .before .before .before .before .before .start-answer .kept .1 .1 .1 .1 .0) (c .before .before .before .before .before .before .before .before .before .before .before .before .before .before .before .before .before .before .before .before .start-answer .ensures .1) (c .before .before .before .before .before .before .before .before .before .before .before .before .before .before .before .clear .ensures) (c .before .before .before .before .before .before .before .before .before .execute .ensures .0) (c .before .before .before .before .before .before .before .before .before .execute .ensures .1) (c .before .before .before .wipe2 .ensures) (c .stepped .ensures)
 
 pub begin-spec : {M : Type 1} → statement M
 begin-spec =
     tie.close
     (tie.spec
-    start-check-requires
+    start-answer-requires
+    wipe-requires
     refused-requires
     same-length
     same-length-2
     returns
+    add-clear
+    clear-requires
     limit-of-requires
     execute-requires
-    wipe-requires
+    wipe-requires-2
     stepped-requires
     same-length-3
     same-length-4

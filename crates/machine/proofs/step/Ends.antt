@@ -54,7 +54,7 @@ module _ (bytes decl : List ℕ) where
       safe : at + 3 ≤ 4096
       safe = omega (arith, skips-safe bytes decl s .0, n .1)
 
-      go : (i : ℕ) → 1088 ≤ i → i < 3136 → 0 < getD (set work q v) i 0 → (x : Bool) → eqb i q ≡ x
+      go : (i : ℕ) → 1088 ≤ i → i < 1088 + (length bytes / 2 + 1) → 0 < getD (set work q v) i 0 → (x : Bool) → eqb i q ≡ x
           → Skips bytes decl (getD (set work q v) i 0 / 8192) (getD (set work q v) i 0 % 8192)
       go i a b h true e =
           let y : getD (set work q v) i 0 ≡ v = ap (λ j. getD (set work q v) j 0) (eqb-true i q e) ∙ getD-set-same work q v 0 (let r = n .2 in let z = safe in omega arith) in
