@@ -12,7 +12,7 @@ use Rattle.meaning.specs.Syntax.{File}
 use Rattle.meaning.specs.Start.{start}
 use Rattle.standing.specs.Bytes.{paramsIn}
 use Rattle.standing.specs.Table.{Declared}
-use Rattle.machine.specs.StartWords.{sortAt, wordFine, kindOf, insideFine, modeAt, numberArg, treeArg, allFrom}
+use Rattle.machine.specs.StartWords.{wordFine, codeAt, insideFine, modeAt, numberArg, treeArg, allFrom}
 
 pub record Area : Type 0 where
   pub work : List ℕ
@@ -49,21 +49,23 @@ usedOnce work c = pick (leb 1024 c) false (leb (getD work c 0) 1)
 unfoldable pub judged : (numbers owned lent single all held : Bool) → ℕ
 judged numbers owned lent single all held = pick numbers (pick owned (pick lent (pick single (pick all 0 (pick held 24 0)) 23) 22) 22) 22
 
-module _ (bytes table store : List ℕ) where
+module _ (codes store : List ℕ) where
   unfoldable pub nameAt : ℕ → Area → ℕ → Area
-  nameAt base a w = pick (leb 65536 w) (pick (wordFine bytes table store w) (bump base a (w - 65536)) a) a
+  nameAt base a w = pick (leb 65536 w) (pick (wordFine codes store w) (bump base a (w - 65536)) a) a
 
-  unfoldable pub fieldAt : (base kind i w : ℕ) → Area → Area
-  fieldAt base kind i w a = pick (eqb (sortAt bytes kind i) 2) (nameAt base a w) a
+  -- the cell that a word names whose bit is set; those that n words name from p on
+  unfoldable pub fieldAt : (base bits w : ℕ) → Area → Area
+  fieldAt base bits w a = pick (eqb (bits % 2) 1) (nameAt base a w) a
+
+  unfoldable pub fieldsAt : (base n bits p : ℕ) → Area → Area
+  fieldsAt base zero bits p a = a
+  fieldsAt base (suc n) bits p a = fieldsAt base n (bits / 2) (p + 1) (fieldAt base bits (getD store p 0) a)
 
   unfoldable pub expandAt : ℕ → Area → ℕ → Area
   expandAt base a c =
       pick (ltb (length store) (5 * c + 5)) a
       (pick (leb 64 (getD store (5 * c) 0)) a
-      (fieldAt base (kindOf table store c) 3 (getD store (5 * c + 4) 0)
-      (fieldAt base (kindOf table store c) 2 (getD store (5 * c + 3) 0)
-      (fieldAt base (kindOf table store c) 1 (getD store (5 * c + 2) 0)
-      (fieldAt base (kindOf table store c) 0 (getD store (5 * c + 1) 0) a)))))
+      (fieldsAt base 4 (codeAt codes store c % 16) (5 * c + 1) a))
 
   unfoldable pub drainAt : (base fuel head : ℕ) → Area → Area
   drainAt base zero h a = a
@@ -74,12 +76,13 @@ module _ (bytes table store : List ℕ) where
   drainFine base zero h a = true
   drainFine base (suc n) h a =
       pick (leb (a .tail) h) true
-      (pick (insideFine bytes table store (getD (a .work) (base + 1024 + h) 0))
+      (pick (insideFine codes store (getD (a .work) (base + 1024 + h) 0))
       (drainFine base n (suc h) (expandAt base a (getD (a .work) (base + 1024 + h) 0))) false)
 
+module _ (bytes table codes store : List ℕ) where
   -- an argument, if it is of a mode; n arguments from i on
   unfoldable pub argAt : (base : ℕ) → (args : List ℕ) → (mode i : ℕ) → Area → Area
-  argAt base args mode i a = pick (eqb (modeAt bytes table i) mode) (nameAt base a (getD args i 0)) a
+  argAt base args mode i a = pick (eqb (modeAt bytes table i) mode) (nameAt codes store base a (getD args i 0)) a
 
   unfoldable pub argsAt : (base : ℕ) → (args : List ℕ) → (mode n i : ℕ) → Area → Area
   argsAt base args mode zero i a = a
@@ -87,7 +90,7 @@ module _ (bytes table store : List ℕ) where
 
   module _ (args : List ℕ) where
     abbrev pub argsFine : ℕ → Bool
-    argsFine mode = allFrom (λ i. treeArg bytes table store args mode i) (length args) 0
+    argsFine mode = allFrom (λ i. treeArg bytes table codes store args mode i) (length args) 0
 
     -- the cells reached from owned arguments; those reached from any, behind them; those that no cycle holds back; and whether words that
     -- are not malformed are all that is met
@@ -95,28 +98,28 @@ module _ (bytes table store : List ℕ) where
     ownedBegun work = argsAt 0 args 2 (length args) 0 (area (cleared 0 (length store / 5) work) 0)
 
     unfoldable pub ownedArea : List ℕ → Area
-    ownedArea work = drainAt 0 1024 0 (ownedBegun work)
+    ownedArea work = drainAt codes store 0 1024 0 (ownedBegun work)
 
     unfoldable pub ownedFine : List ℕ → Bool
-    ownedFine work = pick (argsFine 2) (drainFine 0 1024 0 (ownedBegun work)) false
+    ownedFine work = pick (argsFine 2) (drainFine codes store 0 1024 0 (ownedBegun work)) false
 
     abbrev pub allBegun : Area → Area
     allBegun a = argsAt 0 args 1 (length args) 0 a
 
     unfoldable pub allArea : Area → Area
-    allArea a = drainAt 0 1024 (a .tail) (allBegun a)
+    allArea a = drainAt codes store 0 1024 (a .tail) (allBegun a)
 
     unfoldable pub allFine : Area → Bool
-    allFine a = pick (argsFine 1) (drainFine 0 1024 (a .tail) (allBegun a)) false
+    allFine a = pick (argsFine 1) (drainFine codes store 0 1024 (a .tail) (allBegun a)) false
 
     abbrev pub freeBegun : List ℕ → Area
     freeBegun work = argsAt 2048 args 1 (length args) 0 (argsAt 2048 args 2 (length args) 0 (area (cleared 2048 (length store / 5) work) 0))
 
     unfoldable pub freeArea : List ℕ → Area
-    freeArea work = drainAt 2048 1024 0 (freeBegun work)
+    freeArea work = drainAt codes store 2048 1024 0 (freeBegun work)
 
     unfoldable pub freeFine : List ℕ → Bool
-    freeFine work = pick (argsFine 2) (pick (argsFine 1) (drainFine 2048 1024 0 (freeBegun work)) false) false
+    freeFine work = pick (argsFine 2) (pick (argsFine 1) (drainFine codes store 2048 1024 0 (freeBegun work)) false) false
 
     -- the tests on the areas after the three walks
     unfoldable pub answerAt : (work : List ℕ) (o a f : Area) → ℕ

@@ -1,10 +1,12 @@
 // The start of a run: answers 22, 23 and 24.
 ghost use mathlib.Core.Path.{_≡_};
-ghost use Prim.Native.Nat.{_+_, _/_, _<_, _≤_};
+ghost use Prim.Native.Nat.{_+_, _-_, _/_, _<_, _≤_};
 ghost use lib.ListN.{length, getD};
 ghost use Rattle.standing.specs.Bytes.{byteAt};
-ghost use Rattle.machine.specs.StartWords.{sortAt, numberFine, cellFine, wordFine, fieldFine, insideFine, modeAt, numberArg, treeArg, allFrom};
-ghost use Rattle.machine.specs.StartArea.{area, bumpTo, bump, cleared, usedOnce, nameAt, fieldAt, expandAt, drainAt, drainFine, argAt, argsAt, argsFine, ownedArea, ownedFine, allArea, allFine, freeArea, freeFine, Went, Passed, Meant};
+ghost use Rattle.meaning.specs.Syntax.{File};
+ghost use Rattle.standing.specs.Table.{Declared};
+ghost use Rattle.machine.specs.StartWords.{Coded, bitAt, codeFrom, numberFine, numbersFine, cellFine, wordFine, fieldFine, treesFine, insideFine, modeAt, numberArg, treeArg, allFrom};
+ghost use Rattle.machine.specs.StartArea.{area, bumpTo, bump, cleared, usedOnce, nameAt, fieldAt, fieldsAt, expandAt, drainAt, drainFine, argAt, argsAt, argsFine, ownedArea, ownedFine, allArea, allFine, freeArea, freeFine, Went, Passed, Meant};
 ghost use Rattle.meaning.specs.Answers.{wiped};
 
 // What comes back from a walk that has met a malformed word: no queue is as long.
@@ -20,34 +22,81 @@ fn byte_at(file: &[u8], at: usize) -> u32
     file[at] as u32
 }
 
-// Field i of a constructor, by its word in the table: 0 past the arity, 1 a number, 2 a tree.
-fn sort_of(file: &[u8], kind: u32, i: u32) -> u32
+// A field of a constructor, by its word in the table: 1 a tree, 16 a number, 0 past the arity.
+fn bit_of(file: &[u8], kind: u32, i: u32) -> u32
     requires { ⌜ i < 4 ⌝ }
-    ensures { λ r. ⌜ r ≡ sortAt (now (file .entry)) kind i ⌝ }
+    ensures { λ r. ⌜ (r ≡ bitAt (now (file .entry)) kind i) × (r ≤ 16) ⌝ }
 {
     if kind % 256 <= i {
         return 0;
     }
     let b = byte_at(file, (kind / 256 + i) as usize);
-    1 + b
+    if b == 0 {
+        return 16;
+    }
+    1
 }
 
-// A field that is no number, or a number.
-fn number_fine(file: &[u8], kind: u32, i: u32, w: u32) -> bool
-    requires { ⌜ i < 4 ⌝ }
-    ensures { λ r. ⌜ r ≡ numberFine (now (file .entry)) kind i w ⌝ }
+// A constructor's code: bit i where its field i is a tree, bit 4 + i where it is a number.
+fn code_of(file: &[u8], kind: u32) -> u32
+    ensures { λ r. ⌜ r ≡ codeFrom (now (file .entry)) kind 4 0 ⌝ }
 {
-    let s = sort_of(file, kind, i);
-    if s == 1 {
+    let b0 = bit_of(file, kind, 0);
+    let b1 = bit_of(file, kind, 1);
+    let b2 = bit_of(file, kind, 2);
+    let b3 = bit_of(file, kind, 3);
+    b0 + 2 * (b1 + 2 * (b2 + 2 * b3))
+}
+
+// The code of each constructor, and 256 for each number that no constructor has.
+fn codes_of(file: &[u8], decl: &[u32; 128]) -> [u32; 64]
+    ensures { λ r. ⌜ ((tree : File) → Declared tree (now (file .entry)) (now (decl .entry)) → Coded tree r) ⌝ }
+{
+    let mut codes = [256u32; 64];
+    let mut i: usize = 0;
+    while i < 64 {
+        let kind = decl[i];
+        if kind % 256 == 255 {
+            return codes;
+        }
+        codes[i] = code_of(file, kind);
+        i += 1;
+    }
+    codes
+}
+
+// A word whose bit is not set, or a number.
+fn number_fine(bits: u32, w: u32) -> bool
+    ensures { λ r. ⌜ r ≡ numberFine bits w ⌝ }
+{
+    if bits % 2 == 1 {
         return w < 65536;
     }
     true
 }
 
+// Of four words from a place on, those whose bit is set are numbers.
+fn numbers_in(store: &[u32], at: usize, bits: u32) -> bool
+    requires { ⌜ (at + 4 ≤ length (now store)) × (bits < 16) ⌝ }
+    ensures { λ r. ⌜ r ≡ numbersFine (now (store .entry)) 4 bits at ⌝ }
+{
+    let mut rest = bits;
+    let mut p = at;
+    while 0 < rest {
+        let f = number_fine(rest, store[p]);
+        if !f {
+            return false;
+        }
+        rest = rest / 2;
+        p += 1;
+    }
+    true
+}
+
 // A cell in the store, of a constructor of arity 1 or more, whose number fields are numbers.
-fn cell_fine(file: &[u8], decl: &[u32; 128], store: &[u32], c: usize) -> bool
+fn cell_fine(codes: &[u32; 64], store: &[u32], c: usize) -> bool
     requires { ⌜ c < 4294967296 ⌝ }
-    ensures { λ r. ⌜ r ≡ cellFine (now (file .entry)) (now (decl .entry)) (now (store .entry)) c ⌝ }
+    ensures { λ r. ⌜ r ≡ cellFine (now (codes .entry)) (now (store .entry)) c ⌝ }
 {
     let base = 5 * c;
     if store.len() < base + 5 {
@@ -57,40 +106,28 @@ fn cell_fine(file: &[u8], decl: &[u32; 128], store: &[u32], c: usize) -> bool
     if 64 <= con {
         return false;
     }
-    let kind = decl[con];
-    if kind % 256 == 0 {
+    let code = codes[con];
+    if code == 0 {
         return false;
     }
-    if kind % 256 == 255 {
+    if 256 <= code {
         return false;
     }
-    let n0 = number_fine(file, kind, 0, store[base + 1]);
-    if !n0 {
-        return false;
-    }
-    let n1 = number_fine(file, kind, 1, store[base + 2]);
-    if !n1 {
-        return false;
-    }
-    let n2 = number_fine(file, kind, 2, store[base + 3]);
-    if !n2 {
-        return false;
-    }
-    number_fine(file, kind, 3, store[base + 4])
+    numbers_in(store, base + 1, code / 16)
 }
 
 // A tree word that is not malformed.
-fn word_fine(file: &[u8], decl: &[u32; 128], store: &[u32], w: u32) -> bool
-    ensures { λ r. ⌜ r ≡ wordFine (now (file .entry)) (now (decl .entry)) (now (store .entry)) w ⌝ }
+fn word_fine(codes: &[u32; 64], store: &[u32], w: u32) -> bool
+    ensures { λ r. ⌜ r ≡ wordFine (now (codes .entry)) (now (store .entry)) w ⌝ }
 {
     if 65536 <= w {
-        return cell_fine(file, decl, store, (w - 65536) as usize);
+        return cell_fine(codes, store, (w - 65536) as usize);
     }
     let con = w as usize;
     if 64 <= con {
         return false;
     }
-    decl[con] % 256 == 0
+    codes[con] == 0
 }
 
 // One more naming of a cell, which is queued when the goal is met.
@@ -124,8 +161,7 @@ fn bump_cell(work: &mut [u32], base: usize, tail: usize, c: usize) -> usize
 
 // The cell that a word names, if it names one.
 fn name_word(
-    file: &[u8],
-    decl: &[u32; 128],
+    codes: &[u32; 64],
     store: &[u32],
     work: &mut [u32],
     base: usize,
@@ -133,9 +169,9 @@ fn name_word(
     w: u32,
 ) -> usize
     requires { ⌜ (base ≤ 2048) × (tail ≤ 1024) × (4096 ≤ length (now work)) × (length (now store) ≤ 5120) ⌝ }
-    ensures { λ r. ⌜ Went (now (work .entry)) (now (work .exit)) r (wordFine (now (file .entry)) (now (decl .entry)) (now (store .entry)) w) (nameAt (now (file .entry)) (now (decl .entry)) (now (store .entry)) base (area (now (work .entry)) tail) w) ⌝ }
+    ensures { λ r. ⌜ Went (now (work .entry)) (now (work .exit)) r (wordFine (now (codes .entry)) (now (store .entry)) w) (nameAt (now (codes .entry)) (now (store .entry)) base (area (now (work .entry)) tail) w) ⌝ }
 {
-    let f = word_fine(file, decl, store, w);
+    let f = word_fine(codes, store, w);
     if !f {
         return BAD;
     }
@@ -146,32 +182,55 @@ fn name_word(
     tail
 }
 
-// The cell that a field names, if it is a tree.
+// The cell that a word names, if its bit is set.
 fn name_field(
-    file: &[u8],
-    decl: &[u32; 128],
+    codes: &[u32; 64],
     store: &[u32],
     work: &mut [u32],
     base: usize,
     tail: usize,
-    kind: u32,
-    i: u32,
+    bits: u32,
     w: u32,
 ) -> usize
-    requires { ⌜ (base ≤ 2048) × (tail ≤ 1024) × (4096 ≤ length (now work)) × (length (now store) ≤ 5120) × (i < 4) ⌝ }
-    ensures { λ r. ⌜ Went (now (work .entry)) (now (work .exit)) r (fieldFine (now (file .entry)) (now (decl .entry)) (now (store .entry)) kind i w) (fieldAt (now (file .entry)) (now (decl .entry)) (now (store .entry)) base kind i w (area (now (work .entry)) tail)) ⌝ }
+    requires { ⌜ (base ≤ 2048) × (tail ≤ 1024) × (4096 ≤ length (now work)) × (length (now store) ≤ 5120) ⌝ }
+    ensures { λ r. ⌜ Went (now (work .entry)) (now (work .exit)) r (fieldFine (now (codes .entry)) (now (store .entry)) bits w) (fieldAt (now (codes .entry)) (now (store .entry)) base bits w (area (now (work .entry)) tail)) ⌝ }
 {
-    let s = sort_of(file, kind, i);
-    if s == 2 {
-        return name_word(file, decl, store, work, base, tail, w);
+    if bits % 2 == 1 {
+        return name_word(codes, store, work, base, tail, w);
     }
     tail
 }
 
+// Of four words from a place on, the cells that those name whose bit is set.
+fn name_fields(
+    codes: &[u32; 64],
+    store: &[u32],
+    work: &mut [u32],
+    base: usize,
+    tail: usize,
+    at: usize,
+    bits: u32,
+) -> usize
+    requires { ⌜ (base ≤ 2048) × (tail ≤ 1024) × (4096 ≤ length (now work)) × (length (now store) ≤ 5120) × (at + 4 ≤ length (now store)) × (bits < 16) ⌝ }
+    ensures { λ r. ⌜ Went (now (work .entry)) (now (work .exit)) r (treesFine (now (codes .entry)) (now (store .entry)) 4 bits at) (fieldsAt (now (codes .entry)) (now (store .entry)) base 4 bits at (area (now (work .entry)) tail)) ⌝ }
+{
+    let mut t = tail;
+    let mut rest = bits;
+    let mut p = at;
+    while 0 < rest {
+        t = name_field(codes, store, work, base, t, rest, store[p]);
+        if t == BAD {
+            return BAD;
+        }
+        rest = rest / 2;
+        p += 1;
+    }
+    t
+}
+
 // The cells that a cell names.
 fn expand(
-    file: &[u8],
-    decl: &[u32; 128],
+    codes: &[u32; 64],
     store: &[u32],
     work: &mut [u32],
     base: usize,
@@ -179,7 +238,7 @@ fn expand(
     c: usize,
 ) -> usize
     requires { ⌜ (base ≤ 2048) × (tail ≤ 1024) × (4096 ≤ length (now work)) × (length (now store) ≤ 5120) × (c < 4294967296) ⌝ }
-    ensures { λ r. ⌜ Went (now (work .entry)) (now (work .exit)) r (insideFine (now (file .entry)) (now (decl .entry)) (now (store .entry)) c) (expandAt (now (file .entry)) (now (decl .entry)) (now (store .entry)) base (area (now (work .entry)) tail) c) ⌝ }
+    ensures { λ r. ⌜ Went (now (work .entry)) (now (work .exit)) r (insideFine (now (codes .entry)) (now (store .entry)) c) (expandAt (now (codes .entry)) (now (store .entry)) base (area (now (work .entry)) tail) c) ⌝ }
 {
     let at = 5 * c;
     if store.len() < at + 5 {
@@ -189,26 +248,13 @@ fn expand(
     if 64 <= con {
         return tail;
     }
-    let kind = decl[con];
-    let t0 = name_field(file, decl, store, work, base, tail, kind, 0, store[at + 1]);
-    if t0 == BAD {
-        return BAD;
-    }
-    let t1 = name_field(file, decl, store, work, base, t0, kind, 1, store[at + 2]);
-    if t1 == BAD {
-        return BAD;
-    }
-    let t2 = name_field(file, decl, store, work, base, t1, kind, 2, store[at + 3]);
-    if t2 == BAD {
-        return BAD;
-    }
-    name_field(file, decl, store, work, base, t2, kind, 3, store[at + 4])
+    let code = codes[con];
+    name_fields(codes, store, work, base, tail, at + 1, code % 16)
 }
 
 // Cells are expanded in the order in which they were queued.
 fn drain_queue(
-    file: &[u8],
-    decl: &[u32; 128],
+    codes: &[u32; 64],
     store: &[u32],
     work: &mut [u32],
     base: usize,
@@ -216,7 +262,7 @@ fn drain_queue(
     tail: usize,
 ) -> usize
     requires { ⌜ (base ≤ 2048) × (tail ≤ 1024) × (head ≤ 1024) × (4096 ≤ length (now work)) × (length (now store) ≤ 5120) ⌝ }
-    ensures { λ r. ⌜ Went (now (work .entry)) (now (work .exit)) r (drainFine (now (file .entry)) (now (decl .entry)) (now (store .entry)) base 1024 head (area (now (work .entry)) tail)) (drainAt (now (file .entry)) (now (decl .entry)) (now (store .entry)) base 1024 head (area (now (work .entry)) tail)) ⌝ }
+    ensures { λ r. ⌜ Went (now (work .entry)) (now (work .exit)) r (drainFine (now (codes .entry)) (now (store .entry)) base 1024 head (area (now (work .entry)) tail)) (drainAt (now (codes .entry)) (now (store .entry)) base 1024 head (area (now (work .entry)) tail)) ⌝ }
 {
     let mut t = tail;
     let mut n: usize = 0;
@@ -226,7 +272,7 @@ fn drain_queue(
             return t;
         }
         let c = work[base + 1024 + h] as usize;
-        t = expand(file, decl, store, work, base, t, c);
+        t = expand(codes, store, work, base, t, c);
         if t == BAD {
             return BAD;
         }
@@ -256,6 +302,7 @@ fn mode_of(file: &[u8], decl: &[u32; 128], i: usize) -> u32
 fn name_arg(
     file: &[u8],
     decl: &[u32; 128],
+    codes: &[u32; 64],
     store: &[u32],
     args: &[u32],
     work: &mut [u32],
@@ -265,11 +312,11 @@ fn name_arg(
     i: usize,
 ) -> usize
     requires { ⌜ (base ≤ 2048) × (tail ≤ 1024) × (4096 ≤ length (now work)) × (length (now store) ≤ 5120) × (i < length (now args)) × (i < 255) ⌝ }
-    ensures { λ r. ⌜ Went (now (work .entry)) (now (work .exit)) r (treeArg (now (file .entry)) (now (decl .entry)) (now (store .entry)) (now (args .entry)) mode i) (argAt (now (file .entry)) (now (decl .entry)) (now (store .entry)) base (now (args .entry)) mode i (area (now (work .entry)) tail)) ⌝ }
+    ensures { λ r. ⌜ Went (now (work .entry)) (now (work .exit)) r (treeArg (now (file .entry)) (now (decl .entry)) (now (codes .entry)) (now (store .entry)) (now (args .entry)) mode i) (argAt (now (file .entry)) (now (decl .entry)) (now (codes .entry)) (now (store .entry)) base (now (args .entry)) mode i (area (now (work .entry)) tail)) ⌝ }
 {
     let m = mode_of(file, decl, i);
     if m == mode {
-        return name_word(file, decl, store, work, base, tail, args[i]);
+        return name_word(codes, store, work, base, tail, args[i]);
     }
     tail
 }
@@ -278,6 +325,7 @@ fn name_arg(
 fn name_args(
     file: &[u8],
     decl: &[u32; 128],
+    codes: &[u32; 64],
     store: &[u32],
     args: &[u32],
     work: &mut [u32],
@@ -286,12 +334,12 @@ fn name_args(
     mode: u32,
 ) -> usize
     requires { ⌜ (base ≤ 2048) × (tail ≤ 1024) × (4096 ≤ length (now work)) × (length (now store) ≤ 5120) × (length (now args) ≤ 255) ⌝ }
-    ensures { λ r. ⌜ Went (now (work .entry)) (now (work .exit)) r (argsFine (now (file .entry)) (now (decl .entry)) (now (store .entry)) (now (args .entry)) mode) (argsAt (now (file .entry)) (now (decl .entry)) (now (store .entry)) base (now (args .entry)) mode (length (now (args .entry))) 0 (area (now (work .entry)) tail)) ⌝ }
+    ensures { λ r. ⌜ Went (now (work .entry)) (now (work .exit)) r (argsFine (now (file .entry)) (now (decl .entry)) (now (codes .entry)) (now (store .entry)) (now (args .entry)) mode) (argsAt (now (file .entry)) (now (decl .entry)) (now (codes .entry)) (now (store .entry)) base (now (args .entry)) mode (length (now (args .entry))) 0 (area (now (work .entry)) tail)) ⌝ }
 {
     let mut t = tail;
     let mut i: usize = 0;
     while i < args.len() {
-        t = name_arg(file, decl, store, args, work, base, t, mode, i);
+        t = name_arg(file, decl, codes, store, args, work, base, t, mode, i);
         if t == BAD {
             return BAD;
         }
@@ -351,12 +399,12 @@ fn numbers_fine(file: &[u8], decl: &[u32; 128], args: &[u32]) -> bool
     true
 }
 
-// None of the first queued cells has been named twice.
-fn used_once(work: &[u32], tail: usize) -> bool
+// None of the queued cells from one on has been named twice.
+fn used_once(work: &[u32], from: usize, tail: usize) -> bool
     requires { ⌜ (4096 ≤ length (now work)) × (tail ≤ 1024) ⌝ }
-    ensures { λ r. ⌜ r ≡ allFrom (λ i. usedOnce (now (work .entry)) (getD (now (work .entry)) (1024 + i) 0)) tail 0 ⌝ }
+    ensures { λ r. ⌜ r ≡ allFrom (λ i. usedOnce (now (work .entry)) (getD (now (work .entry)) (1024 + i) 0)) (tail - from) from ⌝ }
 {
-    let mut i: usize = 0;
+    let mut i: usize = from;
     while i < tail {
         let c = work[1024 + i] as usize;
         if 1024 <= c {
@@ -374,55 +422,64 @@ fn used_once(work: &[u32], tail: usize) -> bool
 fn walk_owned(
     file: &[u8],
     decl: &[u32; 128],
+    codes: &[u32; 64],
     store: &[u32],
     args: &[u32],
     work: &mut [u32],
 ) -> usize
     requires { ⌜ (4096 ≤ length (now work)) × (length (now store) ≤ 5120) × (length (now args) ≤ 255) ⌝ }
-    ensures { λ r. ⌜ Went (now (work .entry)) (now (work .exit)) r (ownedFine (now (file .entry)) (now (decl .entry)) (now (store .entry)) (now (args .entry)) (now (work .entry))) (ownedArea (now (file .entry)) (now (decl .entry)) (now (store .entry)) (now (args .entry)) (now (work .entry))) ⌝ }
+    ensures { λ r. ⌜ Went (now (work .entry)) (now (work .exit)) r (ownedFine (now (file .entry)) (now (decl .entry)) (now (codes .entry)) (now (store .entry)) (now (args .entry)) (now (work .entry))) (ownedArea (now (file .entry)) (now (decl .entry)) (now (codes .entry)) (now (store .entry)) (now (args .entry)) (now (work .entry))) ⌝ }
 {
     clear(work, 0, store.len() / 5);
-    let t = name_args(file, decl, store, args, work, 0, 0, 2);
+    let t = name_args(file, decl, codes, store, args, work, 0, 0, 2);
     if t == BAD {
         return BAD;
     }
-    drain_queue(file, decl, store, work, 0, 0, t)
+    drain_queue(codes, store, work, 0, 0, t)
 }
 
 // The further cells that lent arguments reach are queued behind those.
 fn walk_lent(
     file: &[u8],
     decl: &[u32; 128],
+    codes: &[u32; 64],
     store: &[u32],
     args: &[u32],
     work: &mut [u32],
     tail: usize,
 ) -> usize
     requires { ⌜ (4096 ≤ length (now work)) × (length (now store) ≤ 5120) × (length (now args) ≤ 255) × (tail ≤ 1024) ⌝ }
-    ensures { λ r. ⌜ Went (now (work .entry)) (now (work .exit)) r (allFine (now (file .entry)) (now (decl .entry)) (now (store .entry)) (now (args .entry)) (area (now (work .entry)) tail)) (allArea (now (file .entry)) (now (decl .entry)) (now (store .entry)) (now (args .entry)) (area (now (work .entry)) tail)) ⌝ }
+    ensures { λ r. ⌜ Went (now (work .entry)) (now (work .exit)) r (allFine (now (file .entry)) (now (decl .entry)) (now (codes .entry)) (now (store .entry)) (now (args .entry)) (area (now (work .entry)) tail)) (allArea (now (file .entry)) (now (decl .entry)) (now (codes .entry)) (now (store .entry)) (now (args .entry)) (area (now (work .entry)) tail)) ⌝ }
 {
-    let t = name_args(file, decl, store, args, work, 0, tail, 1);
+    let t = name_args(file, decl, codes, store, args, work, 0, tail, 1);
     if t == BAD {
         return BAD;
     }
-    drain_queue(file, decl, store, work, 0, tail, t)
+    drain_queue(codes, store, work, 0, tail, t)
 }
 
 // The cells that no cycle holds back: each is queued at its last naming.
-fn walk_free(file: &[u8], decl: &[u32; 128], store: &[u32], args: &[u32], work: &mut [u32]) -> usize
+fn walk_free(
+    file: &[u8],
+    decl: &[u32; 128],
+    codes: &[u32; 64],
+    store: &[u32],
+    args: &[u32],
+    work: &mut [u32],
+) -> usize
     requires { ⌜ (4096 ≤ length (now work)) × (length (now store) ≤ 5120) × (length (now args) ≤ 255) ⌝ }
-    ensures { λ r. ⌜ Went (now (work .entry)) (now (work .exit)) r (freeFine (now (file .entry)) (now (decl .entry)) (now (store .entry)) (now (args .entry)) (now (work .entry))) (freeArea (now (file .entry)) (now (decl .entry)) (now (store .entry)) (now (args .entry)) (now (work .entry))) ⌝ }
+    ensures { λ r. ⌜ Went (now (work .entry)) (now (work .exit)) r (freeFine (now (file .entry)) (now (decl .entry)) (now (codes .entry)) (now (store .entry)) (now (args .entry)) (now (work .entry))) (freeArea (now (file .entry)) (now (decl .entry)) (now (codes .entry)) (now (store .entry)) (now (args .entry)) (now (work .entry))) ⌝ }
 {
     clear(work, 2048, store.len() / 5);
-    let t = name_args(file, decl, store, args, work, 2048, 0, 2);
+    let t = name_args(file, decl, codes, store, args, work, 2048, 0, 2);
     if t == BAD {
         return BAD;
     }
-    let u = name_args(file, decl, store, args, work, 2048, t, 1);
+    let u = name_args(file, decl, codes, store, args, work, 2048, t, 1);
     if u == BAD {
         return BAD;
     }
-    drain_queue(file, decl, store, work, 2048, 0, u)
+    drain_queue(codes, store, work, 2048, 0, u)
 }
 
 // Answers 22, 23 and 24, or 0; only the first 4,096 words of the work area are changed.
@@ -436,27 +493,28 @@ pub(crate) fn start_answer(
     requires { ⌜ Passed (now file) (now decl) (now args) (now store) (now work) ⌝ }
     ensures { λ r. ⌜ Meant (now (file .entry)) (now (decl .entry)) (now (args .entry)) (now (store .entry)) (now (work .entry)) r × (wiped 4096 (now (work .exit)) ≡ wiped 4096 (now (work .entry))) ⌝ }
 {
+    let codes = codes_of(file, decl);
     let fine = numbers_fine(file, decl, args);
     if !fine {
         return 22;
     }
-    let owned = walk_owned(file, decl, store, args, work);
+    let owned = walk_owned(file, decl, &codes, store, args, work);
     if owned == BAD {
         return 22;
     }
-    let all = walk_lent(file, decl, store, args, work, owned);
+    let all = walk_lent(file, decl, &codes, store, args, work, owned);
     if all == BAD {
         return 22;
     }
-    let own = used_once(work, owned);
+    let own = used_once(work, 0, owned);
     if !own {
         return 23;
     }
-    let single = used_once(work, all);
+    let single = used_once(work, owned, all);
     if single {
         return 0;
     }
-    let free = walk_free(file, decl, store, args, work);
+    let free = walk_free(file, decl, &codes, store, args, work);
     if free < all {
         return 24;
     }

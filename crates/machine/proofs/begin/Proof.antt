@@ -1,3 +1,4 @@
+-- The proof of `begin`. Assumes nothing.
 use borrow.Author.Needs.{needs}
 use Rattle.machine.proofs.begin.Statement.{statement}
 use Rattle.machine.proofs.begin.Tie as tie

@@ -119,7 +119,7 @@ module _ (bytes table args : List ℕ) (f ok : ℕ → Bool) (same : (w : ℕ) �
       ap₂ (λ x y. pick x y false) (ap (λ b. pick b (f w) true) (here ∙ q)) r ∙ ap (λ m. not (any (λ z. not (ok z)) m)) (sym c))
       (bool? (test k))
 
-module _ (bytes table store args : List ℕ) (g : Ground bytes table store) where
+module _ (bytes table codes store args : List ℕ) (g : Ground bytes table codes store) where
   abbrev cs : List Constructor
   cs = g .file .constructors
 
@@ -172,25 +172,25 @@ module _ (bytes table store args : List ℕ) (g : Ground bytes table store) wher
     aim₀ : Aim store 0 w₀ once
     aim₀ = record { low = omega arith; room = omega (arith, cleared-length 0 cells work); goals = λ w h c l. unfold goalOf pick in refl }
 
-    abbrev begin₀ : Rep bytes table store 0 w₀ once 0 (walk [] []) (area w₀ 0)
-    begin₀ = begin-rep bytes table store g 0 w₀ once aim₀ (λ x h. cleared-zero 0 cells work x (omega (arith, few-cells)) (in-cells x h))
+    abbrev begin₀ : Rep codes store 0 w₀ once 0 (walk [] []) (area w₀ 0)
+    begin₀ = begin-rep bytes table codes store g 0 w₀ once aim₀ (λ x h. cleared-zero 0 cells work x (omega (arith, few-cells)) (in-cells x h))
 
-    owned-begun : Rep bytes table store 0 w₀ once (0 + length args) (visits once (walk [] []) (named cs store owned)) (ownedBegun bytes table store args work)
+    owned-begun : Rep codes store 0 w₀ once (0 + length args) (visits once (walk [] []) (named cs store owned)) (ownedBegun bytes table codes store args work)
     owned-begun =
-        args-rep bytes table store g 0 w₀ once aim₀ args is-owned 2 owned-mode (length args) 0 0 ms _ _ many (omega arith) listed (omega (arith, short)) begin₀
+        args-rep bytes table codes store g 0 w₀ once aim₀ args is-owned 2 owned-mode (length args) 0 0 ms _ _ many (omega arith) listed (omega (arith, short)) begin₀
 
-    owned-rep : Rep bytes table store 0 w₀ once (0 + length args + 4 * 1024) (owned-walk cs store owned) (ownedArea bytes table store args work)
+    owned-rep : Rep codes store 0 w₀ once (0 + length args + 4 * 1024) (owned-walk cs store owned) (ownedArea bytes table codes store args work)
     unfolding owned-walk ownedArea
-    owned-rep = drain-rep bytes table store g 0 w₀ once aim₀ 1024 0 (0 + length args) _ _ (omega (arith, short)) owned-begun
+    owned-rep = drain-rep bytes table codes store g 0 w₀ once aim₀ 1024 0 (0 + length args) _ _ (omega (arith, short)) owned-begun
 
     abbrev ownedₐ : Area
-    ownedₐ = ownedArea bytes table store args work
+    ownedₐ = ownedArea bytes table codes store args work
 
     abbrev allₐ : Area
-    allₐ = allArea bytes table store args ownedₐ
+    allₐ = allArea bytes table codes store args ownedₐ
 
     abbrev freeₐ : Area
-    freeₐ = freeArea bytes table store args (allₐ .work)
+    freeₐ = freeArea bytes table codes store args (allₐ .work)
 
     abbrev all-steps : ℕ
     all-steps = 0 + length args + 4 * 1024 + length args
@@ -198,16 +198,16 @@ module _ (bytes table store args : List ℕ) (g : Ground bytes table store) wher
     abbrev all-begins : Walk
     all-begins = visits once (owned-walk cs store owned) (named cs store lent)
 
-    all-begun : Rep bytes table store 0 w₀ once all-steps all-begins (allBegun bytes table store args ownedₐ)
+    all-begun : Rep codes store 0 w₀ once all-steps all-begins (allBegun bytes table codes store args ownedₐ)
     all-begun =
-        args-rep bytes table store g 0 w₀ once aim₀ args is-lent 1 lent-mode (length args) 0 (0 + length args + 4 * 1024) ms (owned-walk cs store owned) ownedₐ many (omega arith) listed (omega (arith, short)) owned-rep
+        args-rep bytes table codes store g 0 w₀ once aim₀ args is-lent 1 lent-mode (length args) 0 (0 + length args + 4 * 1024) ms (owned-walk cs store owned) ownedₐ many (omega arith) listed (omega (arith, short)) owned-rep
 
-    all-rep : Rep bytes table store 0 w₀ once (all-steps + 4 * 1024) (all-walk cs store owned lent) allₐ
+    all-rep : Rep codes store 0 w₀ once (all-steps + 4 * 1024) (all-walk cs store owned lent) allₐ
     unfolding all-walk allArea
     all-rep =
         let h = length (owned-walk cs store owned .queue) in
-        subst (λ (k : ℕ). Rep bytes table store 0 w₀ once (all-steps + 4 * 1024) (drain (kids cs store) once 1024 h all-begins) (drainAt bytes table store 0 1024 k (allBegun bytes table store args ownedₐ))) (sym (owned-rep .tails))
-        (drain-rep bytes table store g 0 w₀ once aim₀ 1024 h all-steps all-begins (allBegun bytes table store args ownedₐ) (omega (arith, short)) all-begun)
+        subst (λ (k : ℕ). Rep codes store 0 w₀ once (all-steps + 4 * 1024) (drain (kids cs store) once 1024 h all-begins) (drainAt codes store 0 1024 k (allBegun bytes table codes store args ownedₐ))) (sym (owned-rep .tails))
+        (drain-rep bytes table codes store g 0 w₀ once aim₀ 1024 h all-steps all-begins (allBegun bytes table codes store args ownedₐ) (omega (arith, short)) all-begun)
 
     -- ---- the second walk
     abbrev w₁ : List ℕ
@@ -235,22 +235,22 @@ module _ (bytes table store args : List ℕ) (g : Ground bytes table store) wher
               unfold goalOf pick in (h c k ∙ cleared-under 2048 cells w₁ c k ∙ count₁ c l));
         }
 
-    free-begun : Rep bytes table store 2048 w₂ last (0 + length args + length args)
-        (visits last (visits last (walk [] []) (named cs store owned)) (named cs store lent)) (freeBegun bytes table store args w₁)
+    free-begun : Rep codes store 2048 w₂ last (0 + length args + length args)
+        (visits last (visits last (walk [] []) (named cs store owned)) (named cs store lent)) (freeBegun bytes table codes store args w₁)
     free-begun =
-        args-rep bytes table store g 2048 w₂ last aim₂ args is-lent 1 lent-mode (length args) 0 (0 + length args) ms _ _ many (omega arith) listed (omega (arith, short))
-        (args-rep bytes table store g 2048 w₂ last aim₂ args is-owned 2 owned-mode (length args) 0 0 ms _ _ many (omega arith) listed (omega (arith, short))
-        (begin-rep bytes table store g 2048 w₂ last aim₂ (λ x h. cleared-zero 2048 cells w₁ x (omega (arith, few-cells, long₁)) (in-cells x h))))
+        args-rep bytes table codes store g 2048 w₂ last aim₂ args is-lent 1 lent-mode (length args) 0 (0 + length args) ms _ _ many (omega arith) listed (omega (arith, short))
+        (args-rep bytes table codes store g 2048 w₂ last aim₂ args is-owned 2 owned-mode (length args) 0 0 ms _ _ many (omega arith) listed (omega (arith, short))
+        (begin-rep bytes table codes store g 2048 w₂ last aim₂ (λ x h. cleared-zero 2048 cells w₁ x (omega (arith, few-cells, long₁)) (in-cells x h))))
 
-    free-rep : Rep bytes table store 2048 w₂ last (0 + length args + length args + 4 * 1024) (free-walk cs store owned lent) freeₐ
+    free-rep : Rep codes store 2048 w₂ last (0 + length args + length args + 4 * 1024) (free-walk cs store owned lent) freeₐ
     unfolding free-walk freeArea
-    free-rep = drain-rep bytes table store g 2048 w₂ last aim₂ 1024 0 (0 + length args + length args) _ _ (omega (arith, short)) free-begun
+    free-rep = drain-rep bytes table codes store g 2048 w₂ last aim₂ 1024 0 (0 + length args + length args) _ _ (omega (arith, short)) free-begun
 
     -- ---- the tests
     abbrev queue : List ℕ
     queue = all-walk cs store owned lent .queue
 
-    cell-fine : (k : ℕ) → k < length queue → wordFine bytes table store (65536 + getD queue k 0) ≡ true
+    cell-fine : (k : ℕ) → k < length queue → wordFine codes store (65536 + getD queue k 0) ≡ true
     cell-fine k h = all-rep .fine (getD queue k 0) (let o = all-rep .kept .outs (getD queue k 0) (count-at queue k h) in omega (arith, o .0, o .1))
 
     at-cell : (k : ℕ) → k < length queue → getD w₁ (1024 + (0 + k)) 0 ≡ getD queue k 0
@@ -260,33 +260,33 @@ module _ (bytes table store args : List ℕ) (g : Ground bytes table store) wher
     unfolding numberArg
     numbers-test = args-any bytes table args (λ w. ltb w 65536) (λ w. is-number w) (λ w. refl) is-numeric 0 numbered (length args) 0 ms many (omega arith) listed
 
-    owned-args : argsFine bytes table store args 2 ≡ not (any bad owned)
+    owned-args : argsFine bytes table codes store args 2 ≡ not (any bad owned)
     unfolding treeArg
     owned-args =
-        args-any bytes table args (wordFine bytes table store) (λ w. word-ok cs store w) (word-is bytes table store g) is-owned 2 owned-mode (length args) 0 ms many (omega arith) listed
+        args-any bytes table args (wordFine codes store) (λ w. word-ok cs store w) (word-is bytes table codes store g) is-owned 2 owned-mode (length args) 0 ms many (omega arith) listed
 
-    lent-args : argsFine bytes table store args 1 ≡ not (any bad lent)
+    lent-args : argsFine bytes table codes store args 1 ≡ not (any bad lent)
     unfolding treeArg
     lent-args =
-        args-any bytes table args (wordFine bytes table store) (λ w. word-ok cs store w) (word-is bytes table store g) is-lent 1 lent-mode (length args) 0 ms many (omega arith) listed
+        args-any bytes table args (wordFine codes store) (λ w. word-ok cs store w) (word-is bytes table codes store g) is-lent 1 lent-mode (length args) 0 ms many (omega arith) listed
 
     abbrev own-queue : List ℕ
     own-queue = owned-walk cs store owned .queue
 
-    owned-test : ownedFine bytes table store args work ≡ not (any bad owned || any bad-cell own-queue)
+    owned-test : ownedFine bytes table codes store args work ≡ not (any bad owned || any bad-cell own-queue)
     unfolding ownedFine owned-walk
     owned-test =
         ap₂ (λ x y. pick x y false) owned-args
-        (drain-fine bytes table store g 0 w₀ once aim₀ 1024 0 (0 + length args) (visits once (walk [] []) (named cs store owned)) (ownedBegun bytes table store args work) (omega (arith, short)) (omega arith) owned-begun)
+        (drain-fine bytes table codes store g 0 w₀ once aim₀ 1024 0 (0 + length args) (visits once (walk [] []) (named cs store owned)) (ownedBegun bytes table codes store args work) (omega (arith, short)) (omega arith) owned-begun)
         ∙ or-not (any bad owned) (any bad-cell own-queue)
 
-    lent-test : allFine bytes table store args ownedₐ ≡ not (any bad lent || any bad-cell (drop (length own-queue) queue))
+    lent-test : allFine bytes table codes store args ownedₐ ≡ not (any bad lent || any bad-cell (drop (length own-queue) queue))
     unfolding allFine all-walk
     lent-test =
         let h = length own-queue in
         ap₂ (λ x y. pick x y false) lent-args
-        (subst (λ (k : ℕ). drainFine bytes table store 0 1024 k (allBegun bytes table store args ownedₐ) ≡ not (any bad-cell (drop h queue))) (sym (owned-rep .tails))
-        (drain-fine bytes table store g 0 w₀ once aim₀ 1024 h all-steps all-begins (allBegun bytes table store args ownedₐ) (omega (arith, short)) (omega arith) all-begun))
+        (subst (λ (k : ℕ). drainFine codes store 0 1024 k (allBegun bytes table codes store args ownedₐ) ≡ not (any bad-cell (drop h queue))) (sym (owned-rep .tails))
+        (drain-fine bytes table codes store g 0 w₀ once aim₀ 1024 h all-steps all-begins (allBegun bytes table codes store args ownedₐ) (omega (arith, short)) (omega arith) all-begun))
         ∙ or-not (any bad lent) (any bad-cell (drop h queue))
 
     abbrev shared : ℕ → Bool
@@ -296,7 +296,7 @@ module _ (bytes table store args : List ℕ) (g : Ground bytes table store) wher
     unfolding usedOnce pick
     used-test k h =
         let c = getD queue k 0 in
-        let s = fine-cell bytes table store c (cell-fine k h) .0 in
+        let s = fine-cell codes store c (cell-fine k h) .0 in
         ap (usedOnce w₁) (at-cell k h)
         ∙ rw (lt-leb 1024 c (omega (arith, g .fits)), count₁ c s) (le-not (last c) 1)
       where
@@ -329,7 +329,7 @@ module _ (bytes table store args : List ℕ) (g : Ground bytes table store) wher
         ap (any bad-cell) (prefix .1) ∙ any-append bad-cell own-queue (prefix .0) ∙ ap (λ l. any bad-cell own-queue || any bad-cell l) (sym d)
 
     -- what the first walk has met without fault, the second meets
-    pub free-fine : ownedFine bytes table store args work ≡ true → allFine bytes table store args ownedₐ ≡ true → freeFine bytes table store args w₁ ≡ true
+    pub free-fine : ownedFine bytes table codes store args work ≡ true → allFine bytes table codes store args ownedₐ ≡ true → freeFine bytes table codes store args w₁ ≡ true
     unfolding freeFine pick free-walk
     free-fine p q =
         let x = neither (any bad owned) (any bad-cell own-queue) (sym owned-test ∙ p) in
@@ -337,7 +337,7 @@ module _ (bytes table store args : List ℕ) (g : Ground bytes table store) wher
         let none : any bad-cell queue ≡ false = parts ∙ ap₂ (λ a b. a || b) (x .1) (y .1) in
         let still : any bad-cell (free-walk cs store owned lent .queue) ≡ false =
         none-any bad-cell (free-walk cs store owned lent .queue) (λ c i. any-false bad-cell queue none c (free-in cs store owned lent (g .fits) c i)) in
-        let d = drain-fine bytes table store g 2048 w₂ last aim₂ 1024 0 (0 + length args + length args) (visits last (visits last (walk [] []) (named cs store owned)) (named cs store lent)) (freeBegun bytes table store args w₁) (omega (arith, short)) (omega arith) free-begun in
+        let d = drain-fine bytes table codes store g 2048 w₂ last aim₂ 1024 0 (0 + length args + length args) (visits last (visits last (walk [] []) (named cs store owned)) (named cs store lent)) (freeBegun bytes table codes store args w₁) (omega (arith, short)) (omega arith) free-begun in
         ap₂ (λ a b. pick a b false) (owned-args ∙ ap not (x .0)) (ap₂ (λ a b. pick a b false) (lent-args ∙ ap not (y .0)) (d ∙ ap not still))
 
     held : Bool
@@ -355,7 +355,7 @@ module _ (bytes table store args : List ℕ) (g : Ground bytes table store) wher
     not-21 : not (eqb (length args) (length ms)) ≡ false
     not-21 = rw (eq-eqb (length args) (length ms) (sym many))
 
-    pub start-is : outcome (startAt bytes table store args work) ≡ start (g .file) (length work) args store
+    pub start-is : outcome (startAt bytes table codes store args work) ≡ start (g .file) (length work) args store
     unfolding startAt answerAt start held
     start-is =
         rw (numbers-test, owned-test, lent-test, single-test, all-test, free-rep .tails, all-rep .tails)

@@ -1,5 +1,5 @@
 -- What a word that is not malformed says of the cell that it names. Assumes nothing.
-use Prim.Native.Nat.{ℕ, _+_, _-_, _*_, _%_, _≤_, _<_}
+use Prim.Native.Nat.{ℕ, _+_, _-_, _*_, _≤_, _<_}
 use mathlib.Core.Path.{_≡_, refl, ap, _∙_}
 use mathlib.Core.Logic.{_⊎_, inl, inr, ⊎-elim}
 use mathlib.Core.List.{List}
@@ -7,18 +7,17 @@ use mathlib.Core.Bool.{Bool, true, false, false≢true}
 use native.Mathlib.Omega.{arith}
 use lib.Dec.{eqb, leb, ltb}
 use lib.ListN.{length, getD}
-use borrow.Author.Tests.{le-leb, leb-false, ltb-false, eqb-false}
+use borrow.Author.Tests.{le-leb, leb-false, ltb-false}
 use Rattle.meaning.specs.Choice.{pick}
-use Rattle.machine.specs.StartWords.{cellFine, wordFine, kindOf}
+use Rattle.machine.specs.StartWords.{cellFine, wordFine, codeAt}
 
 pub bool? : (b : Bool) → (b ≡ true) ⊎ (b ≡ false)
 bool? true = inl refl
 bool? false = inr refl
 
-module _ (bytes table store : List ℕ) where
+module _ (codes store : List ℕ) where
   -- it lies in the store, and its constructor is declared
-  pub fine-cell : (x : ℕ) → wordFine bytes table store (65536 + x) ≡ true
-      → (5 * x + 5 ≤ length store) × (getD store (5 * x) 0 < 64) × (kindOf table store x % 256 ≡ 255 → ⊥)
+  pub fine-cell : (x : ℕ) → wordFine codes store (65536 + x) ≡ true → (5 * x + 5 ≤ length store) × (getD store (5 * x) 0 < 64) × (codeAt codes store x < 256)
   unfolding wordFine cellFine pick
   fine-cell x f =
       let a : leb 65536 (65536 + x) ≡ true = le-leb 65536 (65536 + x) (omega arith) in
@@ -30,18 +29,18 @@ module _ (bytes table store : List ℕ) where
       (λ (q : leb 64 (getD store (5 * x) 0) ≡ true). let z : false ≡ true = rw (a, b, p, q) at f in absurd (false≢true z))
       (λ (q : leb 64 (getD store (5 * x) 0) ≡ false).
       ⊎-elim
-      (λ (r : eqb (kindOf table store x % 256) 0 ≡ true). let z : false ≡ true = rw (a, b, p, q, r) at f in absurd (false≢true z))
-      (λ (r : eqb (kindOf table store x % 256) 0 ≡ false).
+      (λ (r : eqb (codeAt codes store x) 0 ≡ true). let z : false ≡ true = rw (a, b, p, q, r) at f in absurd (false≢true z))
+      (λ (r : eqb (codeAt codes store x) 0 ≡ false).
       ⊎-elim
-      (λ (s : eqb (kindOf table store x % 256) 255 ≡ true). let z : false ≡ true = rw (a, b, p, q, r, s) at f in absurd (false≢true z))
-      (λ (s : eqb (kindOf table store x % 256) 255 ≡ false).
-      (ltb-false (length store) (5 * x + 5) p, leb-false 64 (getD store (5 * x) 0) q, eqb-false (kindOf table store x % 256) 255 s))
-      (bool? (eqb (kindOf table store x % 256) 255)))
-      (bool? (eqb (kindOf table store x % 256) 0)))
+      (λ (s : leb 256 (codeAt codes store x) ≡ true). let z : false ≡ true = rw (a, b, p, q, r, s) at f in absurd (false≢true z))
+      (λ (s : leb 256 (codeAt codes store x) ≡ false).
+      (ltb-false (length store) (5 * x + 5) p, leb-false 64 (getD store (5 * x) 0) q, leb-false 256 (codeAt codes store x) s))
+      (bool? (leb 256 (codeAt codes store x))))
+      (bool? (eqb (codeAt codes store x) 0)))
       (bool? (leb 64 (getD store (5 * x) 0))))
       (bool? (ltb (length store) (5 * x + 5)))
 
-  pub word-small : (w : ℕ) → length store ≤ 5120 → 65536 ≤ w → wordFine bytes table store w ≡ true → w - 65536 < 1024
+  pub word-small : (w : ℕ) → length store ≤ 5120 → 65536 ≤ w → wordFine codes store w ≡ true → w - 65536 < 1024
   word-small w h p f =
       let e : 65536 + (w - 65536) ≡ w = omega arith in
-      omega (arith, fine-cell (w - 65536) (ap (wordFine bytes table store) e ∙ f) .0)
+      omega (arith, fine-cell (w - 65536) (ap (wordFine codes store) e ∙ f) .0)

@@ -20,49 +20,49 @@ went-after w₀ w₁ w r f f′ a a′ p q e g =
     record { same = g .same ∙ p; out = λ z. q ∙ g .out z; on = λ n. (let o = g .on n in (q ∙ o .0, o .1 ∙ e, o .2)) }
 
 -- the walks, once the arguments are named
-module _ (bytes table store args : List ℕ) where
-  pub owned-stops : (work : List ℕ) → argsFine bytes table store args 2 ≡ false → ownedFine bytes table store args work ≡ false
+module _ (bytes table codes store args : List ℕ) where
+  pub owned-stops : (work : List ℕ) → argsFine bytes table codes store args 2 ≡ false → ownedFine bytes table codes store args work ≡ false
   unfolding ownedFine pick
-  owned-stops work p = ap (λ b. pick b (drainFine bytes table store 0 1024 0 (ownedBegun bytes table store args work)) false) p
+  owned-stops work p = ap (λ b. pick b (drainFine codes store 0 1024 0 (ownedBegun bytes table codes store args work)) false) p
 
-  pub owned-goes : (work : List ℕ) (a : Area) → argsFine bytes table store args 2 ≡ true → a ≡ ownedBegun bytes table store args work
-      → (ownedFine bytes table store args work ≡ drainFine bytes table store 0 1024 0 a) × (drainAt bytes table store 0 1024 0 a ≡ ownedArea bytes table store args work)
+  pub owned-goes : (work : List ℕ) (a : Area) → argsFine bytes table codes store args 2 ≡ true → a ≡ ownedBegun bytes table codes store args work
+      → (ownedFine bytes table codes store args work ≡ drainFine codes store 0 1024 0 a) × (drainAt codes store 0 1024 0 a ≡ ownedArea bytes table codes store args work)
   unfolding ownedFine ownedArea pick
   owned-goes work a p e = (
-    ap (λ b. pick b (drainFine bytes table store 0 1024 0 (ownedBegun bytes table store args work)) false) p ∙ ap (drainFine bytes table store 0 1024 0) (sym e),
-    ap (drainAt bytes table store 0 1024 0) e,
+    ap (λ b. pick b (drainFine codes store 0 1024 0 (ownedBegun bytes table codes store args work)) false) p ∙ ap (drainFine codes store 0 1024 0) (sym e),
+    ap (drainAt codes store 0 1024 0) e,
   )
 
-  pub all-stops : (o : Area) → argsFine bytes table store args 1 ≡ false → allFine bytes table store args o ≡ false
+  pub all-stops : (o : Area) → argsFine bytes table codes store args 1 ≡ false → allFine bytes table codes store args o ≡ false
   unfolding allFine pick
-  all-stops o p = ap (λ b. pick b (drainFine bytes table store 0 1024 (o .tail) (allBegun bytes table store args o)) false) p
+  all-stops o p = ap (λ b. pick b (drainFine codes store 0 1024 (o .tail) (allBegun bytes table codes store args o)) false) p
 
-  pub all-goes : (o a : Area) → argsFine bytes table store args 1 ≡ true → a ≡ allBegun bytes table store args o
-      → (allFine bytes table store args o ≡ drainFine bytes table store 0 1024 (o .tail) a) × (drainAt bytes table store 0 1024 (o .tail) a ≡ allArea bytes table store args o)
+  pub all-goes : (o a : Area) → argsFine bytes table codes store args 1 ≡ true → a ≡ allBegun bytes table codes store args o
+      → (allFine bytes table codes store args o ≡ drainFine codes store 0 1024 (o .tail) a) × (drainAt codes store 0 1024 (o .tail) a ≡ allArea bytes table codes store args o)
   unfolding allFine allArea pick
   all-goes o a p e = (
-    ap (λ b. pick b (drainFine bytes table store 0 1024 (o .tail) (allBegun bytes table store args o)) false) p ∙ ap (drainFine bytes table store 0 1024 (o .tail)) (sym e),
-    ap (drainAt bytes table store 0 1024 (o .tail)) e,
+    ap (λ b. pick b (drainFine codes store 0 1024 (o .tail) (allBegun bytes table codes store args o)) false) p ∙ ap (drainFine codes store 0 1024 (o .tail)) (sym e),
+    ap (drainAt codes store 0 1024 (o .tail)) e,
   )
 
   abbrev free-drain : List ℕ → Bool
-  free-drain work = drainFine bytes table store 2048 1024 0 (freeBegun bytes table store args work)
+  free-drain work = drainFine codes store 2048 1024 0 (freeBegun bytes table codes store args work)
 
-  pub free-stops : (work : List ℕ) → argsFine bytes table store args 2 ≡ false → freeFine bytes table store args work ≡ false
+  pub free-stops : (work : List ℕ) → argsFine bytes table codes store args 2 ≡ false → freeFine bytes table codes store args work ≡ false
   unfolding freeFine pick
-  free-stops work p = ap (λ b. pick b (pick (argsFine bytes table store args 1) (free-drain work) false) false) p
+  free-stops work p = ap (λ b. pick b (pick (argsFine bytes table codes store args 1) (free-drain work) false) false) p
 
-  pub free-halts : (work : List ℕ) → argsFine bytes table store args 2 ≡ true → argsFine bytes table store args 1 ≡ false → freeFine bytes table store args work ≡ false
+  pub free-halts : (work : List ℕ) → argsFine bytes table codes store args 2 ≡ true → argsFine bytes table codes store args 1 ≡ false → freeFine bytes table codes store args work ≡ false
   unfolding freeFine pick
   free-halts work p q =
-      ap (λ b. pick b (pick (argsFine bytes table store args 1) (free-drain work) false) false) p ∙ ap (λ b. pick b (free-drain work) false) q
+      ap (λ b. pick b (pick (argsFine bytes table codes store args 1) (free-drain work) false) false) p ∙ ap (λ b. pick b (free-drain work) false) q
 
-  pub free-goes : (work : List ℕ) (a : Area) → argsFine bytes table store args 2 ≡ true → argsFine bytes table store args 1 ≡ true
-      → a ≡ freeBegun bytes table store args work
-      → (freeFine bytes table store args work ≡ drainFine bytes table store 2048 1024 0 a) × (drainAt bytes table store 2048 1024 0 a ≡ freeArea bytes table store args work)
+  pub free-goes : (work : List ℕ) (a : Area) → argsFine bytes table codes store args 2 ≡ true → argsFine bytes table codes store args 1 ≡ true
+      → a ≡ freeBegun bytes table codes store args work
+      → (freeFine bytes table codes store args work ≡ drainFine codes store 2048 1024 0 a) × (drainAt codes store 2048 1024 0 a ≡ freeArea bytes table codes store args work)
   unfolding freeFine freeArea pick
   free-goes work a p q e = (
-    ap (λ b. pick b (pick (argsFine bytes table store args 1) (free-drain work) false) false) p ∙ ap (λ b. pick b (free-drain work) false) q
-        ∙ ap (drainFine bytes table store 2048 1024 0) (sym e),
-    ap (drainAt bytes table store 2048 1024 0) e,
+    ap (λ b. pick b (pick (argsFine bytes table codes store args 1) (free-drain work) false) false) p ∙ ap (λ b. pick b (free-drain work) false) q
+        ∙ ap (drainFine codes store 2048 1024 0) (sym e),
+    ap (drainAt codes store 2048 1024 0) e,
   )

@@ -20,11 +20,12 @@ use Rattle.theory.proofs.StartCounting.{same?, le?, bool?, one-same, one-other,
 use Rattle.theory.proofs.StartWalk.{Kept, visit-kept, taken, passed, met, met-count, visits-grows}
 use Rattle.theory.proofs.StartReached.{drain-grows}
 use Rattle.theory.proofs.StartWords.{named-cell, named-bad, named-atom}
-use Rattle.machine.specs.StartWords.{sortAt, wordFine, kindOf, insideFine, modeAt}
-use Rattle.machine.specs.StartArea.{Area, area, counted, bumpTo, bump, nameAt, fieldAt, expandAt, drainAt, drainFine, argAt, argsAt}
+use Rattle.machine.specs.StartWords.{wordFine, codeAt, insideFine, modeAt}
+use Rattle.machine.specs.StartArea.{Area, area, counted, bumpTo, bump, nameAt, fieldAt, fieldsAt, expandAt, drainAt, drainFine, argAt, argsAt}
 use Rattle.machine.proofs.start.Fine.{fine-cell}
-use Rattle.machine.proofs.start.Fields.{Left, left-next, left-sort, left-none}
-use Rattle.machine.proofs.start.Told.{Ground, kind-none, kind-left, kind-small, word-is, inside-by, inside-is}
+use Rattle.machine.proofs.start.Turns.{field-other, fields-turn, fields-none}
+use Rattle.machine.proofs.start.Fields.{treesOf}
+use Rattle.machine.proofs.start.Told.{Ground, code-none, small, trees-by, word-is, inside-by, inside-is}
 
 count-length : (x : ℕ) (l : List ℕ) → count x l ≤ length l
 count-length x [] = omega arith
@@ -68,10 +69,10 @@ pub chosen-out : (test : Mode → Bool) (k : Mode) (ms : List Mode) (w : ℕ) (w
 chosen-out test k ms w ws q = rw (q, chosen)
 
 -- the area holds the walk: its counts from `base` on, its queue behind them, and nothing else is changed
-pub record Rep (bytes table store : List ℕ) (base : ℕ) (w₀ : List ℕ) (t : ℕ → ℕ) (m : ℕ) (s : Walk) (a : Area) : Type 0 where
+pub record Rep (codes store : List ℕ) (base : ℕ) (w₀ : List ℕ) (t : ℕ → ℕ) (m : ℕ) (s : Walk) (a : Area) : Type 0 where
   pub long : length (a .work) ≡ length w₀
   pub kept : Kept t s
-  pub fine : (x : ℕ) → 1 ≤ count x (s .seen) → wordFine bytes table store (65536 + x) ≡ true
+  pub fine : (x : ℕ) → 1 ≤ count x (s .seen) → wordFine codes store (65536 + x) ≡ true
   pub few-met : length (s .seen) ≤ m
   pub counts : (x : ℕ) → 5 * x + 5 ≤ length store → getD (a .work) (base + x) 0 ≡ count x (s .seen)
   pub order : (i : ℕ) → i < length (s .queue) → getD (a .work) (base + 1024 + i) 0 ≡ getD (s .queue) i 0
@@ -85,32 +86,32 @@ pub record Aim (store : List ℕ) (base : ℕ) (w₀ : List ℕ) (t : ℕ → �
   pub room : 4096 ≤ length w₀
   pub goals : (w : List ℕ) → ((j : ℕ) → j < base → getD w j 0 ≡ getD w₀ j 0) → (c : ℕ) → 5 * c + 5 ≤ length store → goalOf base w c ≡ t c
 
-module _ (bytes table store : List ℕ) (g : Ground bytes table store) (base : ℕ) (w₀ : List ℕ) (t : ℕ → ℕ) (aim : Aim store base w₀ t) where
+module _ (bytes table codes store : List ℕ) (g : Ground bytes table codes store) (base : ℕ) (w₀ : List ℕ) (t : ℕ → ℕ) (aim : Aim store base w₀ t) where
   abbrev cs : List Constructor
   cs = g .file .constructors
 
   abbrev Holds : ℕ → Walk → Area → Type 0
-  Holds = Rep bytes table store base w₀ t
+  Holds = Rep codes store base w₀ t
 
   abbrev Good : Walk → Type 0
-  Good s = (x : ℕ) → 1 ≤ count x (s .seen) → wordFine bytes table store (65536 + x) ≡ true
+  Good s = (x : ℕ) → 1 ≤ count x (s .seen) → wordFine codes store (65536 + x) ≡ true
 
-  stored : (x : ℕ) → wordFine bytes table store (65536 + x) ≡ true → 5 * x + 5 ≤ length store
-  stored x f = fine-cell bytes table store x f .0
+  stored : (x : ℕ) → wordFine codes store (65536 + x) ≡ true → 5 * x + 5 ≤ length store
+  stored x f = fine-cell codes store x f .0
 
   queue-fits : (s : Walk) → Kept t s → Good s → length (s .queue) ≤ 1024
   queue-fits s k f =
       few 1024 (s .queue) (k .once)
       (λ x p. let h = stored x (f x (let o = k .outs x p in omega (arith, o .0, o .1))) in omega (arith, g .fits))
 
-  visit-fine : (s : Walk) (c : ℕ) → Good s → wordFine bytes table store (65536 + c) ≡ true → Good (visit t s c)
+  visit-fine : (s : Walk) (c : ℕ) → Good s → wordFine codes store (65536 + c) ≡ true → Good (visit t s c)
   visit-fine s c f h x p =
       ⊎-elim
-      (λ (e : x ≡ c). ap (λ y. wordFine bytes table store (65536 + y)) e ∙ h)
+      (λ (e : x ≡ c). ap (λ y. wordFine codes store (65536 + y)) e ∙ h)
       (λ (e : x ≡ c → ⊥). f x (omega (arith, met-count t s c x, one-other x c e)))
       (same? x c)
 
-  bump-rep : (m : ℕ) (s : Walk) (a : Area) (c : ℕ) → m < 4294967295 → wordFine bytes table store (65536 + c) ≡ true → Holds m s a
+  bump-rep : (m : ℕ) (s : Walk) (a : Area) (c : ℕ) → m < 4294967295 → wordFine codes store (65536 + c) ≡ true → Holds m s a
       → Holds (suc m) (visit t s c) (bump base a c)
   unfolding bumpTo pick
   bump-rep m s a c hm h r =
@@ -206,88 +207,81 @@ module _ (bytes table store : List ℕ) (g : Ground bytes table store) (base : �
 
   -- one word, and then the others
   name-rep : (m : ℕ) (s : Walk) (a : Area) (w : ℕ) (ws : List ℕ) → m < 4294967295 → Holds m s a
-      → (u : Walk) × (visited s (w ∷ ws) ≡ visited u ws) × Holds (suc m) u (nameAt bytes table store base a w)
+      → (u : Walk) × (visited s (w ∷ ws) ≡ visited u ws) × Holds (suc m) u (nameAt codes store base a w)
   unfolding nameAt pick
   name-rep m s a w ws hm r =
       ⊎-elim
       (λ (h : 65536 ≤ w).
       ⊎-elim
-      (λ (f : wordFine bytes table store w ≡ true).
+      (λ (f : wordFine codes store w ≡ true).
       let e : 65536 + (w - 65536) ≡ w = omega arith in (
         visit t s (w - 65536),
-        visited-cell s w ws h (sym (word-is bytes table store g w) ∙ f),
-        rw (le-leb 65536 w h, f) (bump-rep m s a (w - 65536) hm (ap (wordFine bytes table store) e ∙ f) r),
+        visited-cell s w ws h (sym (word-is bytes table codes store g w) ∙ f),
+        rw (le-leb 65536 w h, f) (bump-rep m s a (w - 65536) hm (ap (wordFine codes store) e ∙ f) r),
       ))
-      (λ (f : wordFine bytes table store w ≡ false).
-      (s, visited-bad s w ws h (sym (word-is bytes table store g w) ∙ f), rw (le-leb 65536 w h, f) (more-rep m (suc m) s a (omega arith) r)))
-      (bool? (wordFine bytes table store w)))
+      (λ (f : wordFine codes store w ≡ false).
+      (s, visited-bad s w ws h (sym (word-is bytes table codes store g w) ∙ f), rw (le-leb 65536 w h, f) (more-rep m (suc m) s a (omega arith) r)))
+      (bool? (wordFine codes store w)))
       (λ (h : w < 65536). (s, visited-atom s w ws h, rw (lt-leb 65536 w h) (more-rep m (suc m) s a (omega arith) r)))
       (le? 65536 w)
 
-  field-tree : (kind i w : ℕ) (a : Area) → sortAt bytes kind i ≡ 2 → fieldAt bytes table store base kind i w a ≡ nameAt bytes table store base a w
+  field-tree : (bits w : ℕ) (a : Area) → bits % 2 ≡ 1 → fieldAt codes store base bits w a ≡ nameAt codes store base a w
   unfolding fieldAt pick
-  field-tree kind i w a e = rw e
+  field-tree bits w a e = rw e
 
-  field-other : (kind i w k : ℕ) (a : Area) → sortAt bytes kind i ≡ k → (k ≡ 2 → ⊥) → fieldAt bytes table store base kind i w a ≡ a
-  unfolding fieldAt pick
-  field-other kind i w k a e n = rw (e, ne-eqb k 2 n)
-
-  -- n fields of a cell from i on
-  fieldsAt : (kind c n i : ℕ) → Area → Area
-  fieldsAt kind c zero i a = a
-  fieldsAt kind c (suc n) i a = fieldsAt kind c n (suc i) (fieldAt bytes table store base kind i (getD store (5 * c + suc i) 0) a)
-
-  fields-none : (kind c n i : ℕ) (a : Area) → Left bytes kind i [] → (j : ℕ) → i ≤ j → fieldsAt kind c n j a ≡ a
-  unfolding fieldsAt
-  fields-none kind c zero i a l j h = refl
-  fields-none kind c (suc n) i a l j h =
-      rw (field-other kind j (getD store (5 * c + suc j) 0) 0 a (left-none bytes kind i j l h) (λ z. omega arith)) (fields-none kind c n i a l (suc j) (omega arith))
-
-  fields-rep : (kind c n i m : ℕ) (ss : Constructor) (s : Walk) (a : Area) → length ss ≤ n → Left bytes kind i ss → m + n < 4294967295 → Holds m s a
-      → Holds (m + n) (visited s (tree-words store c (suc i) ss)) (fieldsAt kind c n i a)
-  unfolding fieldsAt
-  fields-rep kind c n i m [] s a h l hm r =
-      rw (visited-none s, fields-none kind c n i a l i (omega arith)) (more-rep m (m + n) s a (omega arith) r)
-  fields-rep kind c zero i m (s ∷ ss) u a h l hm r = absurd (omega arith)
-  fields-rep kind c (suc n) i m (Sort.number ∷ ss) s a h l hm r =
-      let w = getD store (5 * c + suc i) 0 in
-      let e : fieldAt bytes table store base kind i w a ≡ a = field-other kind i w 1 a (left-sort bytes kind i Sort.number ss l) (λ z. omega arith) in
-      rw e (more-rep (m + n) (m + suc n) (visited s (tree-words store c (suc (suc i)) ss)) (fieldsAt kind c n (suc i) a) (omega arith)
-      (fields-rep kind c n (suc i) m ss s a (omega arith) (left-next bytes kind i Sort.number ss l) (omega arith) r))
-  fields-rep kind c (suc n) i m (Sort.tree ∷ ss) s a h l hm r =
-      let w = getD store (5 * c + suc i) 0 in
-      let ws = tree-words store c (suc (suc i)) ss in
-      let e : fieldAt bytes table store base kind i w a ≡ nameAt bytes table store base a w = field-tree kind i w a (left-sort bytes kind i Sort.tree ss l) in
-      let b = nameAt bytes table store base a w in
+  fields-rep : (c n i m : ℕ) (ss : Constructor) (s : Walk) (a : Area) → length ss ≤ n → m + n < 4294967295 → Holds m s a
+      → Holds (m + n) (visited s (tree-words store c i ss)) (fieldsAt codes store base n (treesOf ss) (5 * c + i) a)
+  fields-rep c n i m [] s a h hm r =
+      rw (visited-none s, fields-none codes store base n (5 * c + i) a) (more-rep m (m + n) s a (omega arith) r)
+  fields-rep c zero i m (s ∷ ss) u a h hm r = absurd (omega arith)
+  fields-rep c (suc n) i m (Sort.number ∷ ss) s a h hm r =
+      let x = treesOf ss in
+      let w = getD store (5 * c + i) 0 in
+      let y : (2 * x) % 2 ≡ 0 = omega arith in
+      let d : (2 * x) / 2 ≡ x = omega arith in
+      let p : 5 * c + i + 1 ≡ 5 * c + suc i = omega arith in
+      let e = fields-turn codes store base n (2 * x) x (5 * c + i) (5 * c + suc i) a a d p (field-other codes store base (2 * x) w a y) in
+      rw e (more-rep (m + n) (m + suc n) (visited s (tree-words store c (suc i) ss)) (fieldsAt codes store base n x (5 * c + suc i) a) (omega arith)
+      (fields-rep c n (suc i) m ss s a (omega arith) (omega arith) r))
+  fields-rep c (suc n) i m (Sort.tree ∷ ss) s a h hm r =
+      let x = treesOf ss in
+      let w = getD store (5 * c + i) 0 in
+      let ws = tree-words store c (suc i) ss in
+      let b = nameAt codes store base a w in
+      let y : (1 + 2 * x) % 2 ≡ 1 = omega arith in
+      let d : (1 + 2 * x) / 2 ≡ x = omega arith in
+      let p : 5 * c + i + 1 ≡ 5 * c + suc i = omega arith in
+      let e = fields-turn codes store base n (1 + 2 * x) x (5 * c + i) (5 * c + suc i) a b d p (field-tree (1 + 2 * x) w a y) in
       let v = name-rep m s a w ws (omega arith) r in
       rw (v .1, e)
-      (more-rep (suc m + n) (m + suc n) (visited (v .0) ws) (fieldsAt kind c n (suc i) b) (omega arith)
-      (fields-rep kind c n (suc i) (suc m) ss (v .0) b (omega arith) (left-next bytes kind i Sort.tree ss l) (omega arith) (v .2)))
+      (more-rep (suc m + n) (m + suc n) (visited (v .0) ws) (fieldsAt codes store base n x (5 * c + suc i) b) (omega arith)
+      (fields-rep c n (suc i) (suc m) ss (v .0) b (omega arith) (omega arith) (v .2)))
 
   -- a cell that a well-formed word names is of a declared constructor
-  pub con-there : (c : ℕ) → wordFine bytes table store (65536 + c) ≡ true → getD store (5 * c) 0 < length cs
+  pub con-there : (c : ℕ) → wordFine codes store (65536 + c) ≡ true → getD store (5 * c) 0 < length cs
   con-there c h =
-      let f = fine-cell bytes table store c h in
+      let f = fine-cell codes store c h in
       let k = getD store (5 * c) 0 in
       ⊎-elim
-      (λ (o : length cs ≤ k). absurd (f .2 (kind-none bytes table store g k o (f .1))))
+      (λ (o : length cs ≤ k). let e : codeAt codes store c ≡ 256 = code-none bytes table codes store g k o (f .1) in let l = f .2 in absurd (omega arith))
       (λ (o : k < length cs). o)
       (le? (length cs) k)
 
-  expand-rep : (m : ℕ) (s : Walk) (a : Area) (c : ℕ) → m + 4 < 4294967295 → wordFine bytes table store (65536 + c) ≡ true → Holds m s a
-      → Holds (m + 4) (visits t s (kids cs store c)) (expandAt bytes table store base a c)
-  unfolding expandAt pick fieldsAt
+  expand-rep : (m : ℕ) (s : Walk) (a : Area) (c : ℕ) → m + 4 < 4294967295 → wordFine codes store (65536 + c) ≡ true → Holds m s a
+      → Holds (m + 4) (visits t s (kids cs store c)) (expandAt codes store base a c)
+  unfolding expandAt pick
   expand-rep m s a c hm h r =
-      let f = fine-cell bytes table store c h in
+      let f = fine-cell codes store c h in
       let k = getD store (5 * c) 0 in
-      let kind = kindOf table store c in
+      let ss = getD cs k [] in
       let o = con-there c h in
       rw (le-ltb (length store) (5 * c + 5) (f .0), lt-leb 64 k (f .1))
-      (subst (λ ws. Holds (m + 4) (visited s ws) (fieldsAt kind c 4 0 a)) (sym (inside-by bytes table store g c))
-      (fields-rep kind c 4 0 m (getD cs k []) s a (kind-small bytes table store g k) (kind-left bytes table store g k o) hm r))
+      (subst (λ ws. Holds (m + 4) (visited s ws) (fieldsAt codes store base 4 (codeAt codes store c % 16) (5 * c + 1) a)) (sym (inside-by bytes table codes store g c))
+      (subst (λ n. Holds (m + 4) (visited s (tree-words store c 1 ss)) (fieldsAt codes store base 4 n (5 * c + 1) a)) (sym (trees-by bytes table codes store g c o))
+      (fields-rep c 4 1 m ss s a (small bytes table codes store g k) hm r)))
 
   pub drain-rep : (n h m : ℕ) (s : Walk) (a : Area) → m + 4 * n < 4294967295 → Holds m s a
-      → Holds (m + 4 * n) (drain (kids cs store) t n h s) (drainAt bytes table store base n h a)
+      → Holds (m + 4 * n) (drain (kids cs store) t n h s) (drainAt codes store base n h a)
   unfolding drain drainAt pick
   drain-rep zero h m s a hm r = more-rep m (m + 4 * 0) s a (omega arith) r
   drain-rep (suc n) h m s a hm r =
@@ -296,12 +290,12 @@ module _ (bytes table store : List ℕ) (g : Ground bytes table store) (base : �
       (λ (p : length (s .queue) ≤ h). rw (le-leb (length (s .queue)) h p, le-leb (a .tail) h (omega arith)) (more-rep m (m + 4 * suc n) s a (omega arith) r))
       (λ (p : h < length (s .queue)).
       let c = getD (s .queue) h 0 in
-      let f : wordFine bytes table store (65536 + c) ≡ true = r .fine c (let o = r .kept .outs c (count-at (s .queue) h p) in omega (arith, o .0, o .1)) in
+      let f : wordFine codes store (65536 + c) ≡ true = r .fine c (let o = r .kept .outs c (count-at (s .queue) h p) in omega (arith, o .0, o .1)) in
       let s₁ = visits t s (kids cs store c) in
       let k : m + 4 + 4 * n ≤ m + 4 * suc n = omega arith in
       rw (lt-leb (length (s .queue)) h p, lt-leb (a .tail) h (omega arith), r .order h p)
-      (more-rep (m + 4 + 4 * n) (m + 4 * suc n) (drain (kids cs store) t n (suc h) s₁) (drainAt bytes table store base n (suc h) (expandAt bytes table store base a c)) k
-      (drain-rep n (suc h) (m + 4) s₁ (expandAt bytes table store base a c) (omega arith) (expand-rep m s a c (omega arith) f r))))
+      (more-rep (m + 4 + 4 * n) (m + 4 * suc n) (drain (kids cs store) t n (suc h) s₁) (drainAt codes store base n (suc h) (expandAt codes store base a c)) k
+      (drain-rep n (suc h) (m + 4) s₁ (expandAt codes store base a c) (omega arith) (expand-rep m s a c (omega arith) f r))))
       (le? (length (s .queue)) h)
 
   -- the words in the cells that are expanded
@@ -309,7 +303,7 @@ module _ (bytes table store : List ℕ) (g : Ground bytes table store) (base : �
   bad-cell c = any (λ w. not (word-ok cs store w)) (inside cs store c)
 
   pub drain-fine : (n h m : ℕ) (s : Walk) (a : Area) → m + 4 * n < 4294967295 → 1024 ≤ n + h → Holds m s a
-      → drainFine bytes table store base n h a ≡ not (any (λ c. any (λ w. not (word-ok cs store w)) (inside cs store c)) (drop h (drain (kids cs store) t n h s .queue)))
+      → drainFine codes store base n h a ≡ not (any (λ c. any (λ w. not (word-ok cs store w)) (inside cs store c)) (drop h (drain (kids cs store) t n h s .queue)))
   unfolding drain drainFine pick
   drain-fine zero h m s a hm k r =
       let l : length (s .queue) ≤ h = omega (arith, queue-fits s (r .kept) (r .fine)) in
@@ -320,7 +314,7 @@ module _ (bytes table store : List ℕ) (g : Ground bytes table store) (base : �
       (λ (p : length (s .queue) ≤ h). rw (le-leb (length (s .queue)) h p, le-leb (a .tail) h (omega arith), drop-of-length-le (s .queue) p))
       (λ (p : h < length (s .queue)).
       let c = getD (s .queue) h 0 in
-      let f : wordFine bytes table store (65536 + c) ≡ true = r .fine c (let o = r .kept .outs c (count-at (s .queue) h p) in omega (arith, o .0, o .1)) in
+      let f : wordFine codes store (65536 + c) ≡ true = r .fine c (let o = r .kept .outs c (count-at (s .queue) h p) in omega (arith, o .0, o .1)) in
       let s₁ = visits t s (kids cs store c) in
       let q = drain (kids cs store) t n (suc h) s₁ .queue in
       let x = visits-grows t s (kids cs store c) in
@@ -328,15 +322,15 @@ module _ (bytes table store : List ℕ) (g : Ground bytes table store) (base : �
       let e : q ≡ s .queue ++ (x .0 ++ y .0) = y .1 ∙ ap (λ l. l ++ y .0) (x .1) ∙ append-assoc (s .queue) (x .0) (y .0) in
       let l : h < length q = rw e (simp length-append (omega arith)) in
       let d : drop h q ≡ c ∷ drop (suc h) q = drop-cons q h 0 l ∙ ap (λ z. z ∷ drop (suc h) q) (ap (λ (u : List ℕ). getD u h 0) e ∙ List·getD-append (s .queue) (x .0 ++ y .0) 0 h p) in
-      let here : insideFine bytes table store c ≡ not (bad-cell c) = inside-is bytes table store g c (stored c f) (con-there c f) in
-      let rest = drain-fine n (suc h) (m + 4) s₁ (expandAt bytes table store base a c) (omega arith) (omega arith) (expand-rep m s a c (omega arith) f r) in
+      let here : insideFine codes store c ≡ not (bad-cell c) = inside-is bytes table codes store g c (stored c f) (con-there c f) in
+      let rest = drain-fine n (suc h) (m + 4) s₁ (expandAt codes store base a c) (omega arith) (omega arith) (expand-rep m s a c (omega arith) f r) in
       rw (lt-leb (length (s .queue)) h p, lt-leb (a .tail) h (omega arith), r .order h p, d, here, rest) (or-not (bad-cell c) (any bad-cell (drop (suc h) q))))
       (le? (length (s .queue)) h)
 
   -- the arguments of a mode
   module _ (args : List ℕ) (test : Mode → Bool) (mode : ℕ) (says : (k : Mode) → eqb (mode-byte k) mode ≡ test k) where
     pub args-rep : (n i m : ℕ) (ms : List Mode) (s : Walk) (a : Area) → length ms ≡ n → i + n ≡ length args → Modes bytes (getD table 64 0 / 256 + i) ms
-        → m + n < 4294967295 → Holds m s a → Holds (m + n) (visited s (chosen test ms (drop i args))) (argsAt bytes table store base args mode n i a)
+        → m + n < 4294967295 → Holds m s a → Holds (m + n) (visited s (chosen test ms (drop i args))) (argsAt bytes table codes store base args mode n i a)
     unfolding argsAt argAt pick
     args-rep zero i m [] s a e l o hm r = rw (visited-none s) (more-rep m (m + 0) s a (omega arith) r)
     args-rep zero i m (k ∷ ms) s a e l o hm r = absurd (omega arith)
@@ -350,13 +344,13 @@ module _ (bytes table store : List ℕ) (g : Ground bytes table store) (base : �
         ⊎-elim
         (λ (q : test k ≡ true).
         let v = name-rep m s a w ws (omega arith) r in
-        let b = nameAt bytes table store base a w in
+        let b = nameAt codes store base a w in
         rw (drop-cons args i 0 (omega arith), here, q, chosen-in test k ms w (drop (suc i) args) q, v .1)
-        (more-rep (suc m + n) (m + suc n) (visited (v .0) ws) (argsAt bytes table store base args mode n (suc i) b) (omega arith)
+        (more-rep (suc m + n) (m + suc n) (visited (v .0) ws) (argsAt bytes table codes store base args mode n (suc i) b) (omega arith)
         (args-rep n (suc i) (suc m) ms (v .0) b (omega arith) (omega arith) o′ (omega arith) (v .2))))
         (λ (q : test k ≡ false).
         rw (drop-cons args i 0 (omega arith), here, q, chosen-out test k ms w (drop (suc i) args) q)
-        (more-rep (m + n) (m + suc n) (visited s ws) (argsAt bytes table store base args mode n (suc i) a) (omega arith)
+        (more-rep (m + n) (m + suc n) (visited s ws) (argsAt bytes table codes store base args mode n (suc i) a) (omega arith)
         (args-rep n (suc i) m ms s a (omega arith) (omega arith) o′ (omega arith) r)))
         (bool? (test k))
 

@@ -1,8 +1,7 @@
+-- The proof of `name_arg`. Assumes nothing.
 use borrow.Author.Needs.{needs}
 use Rattle.machine.proofs.start.name_arg.Statement.{statement}
 use Rattle.machine.proofs.start.name_arg.Tie as tie
-use Rattle.machine.proofs.start.name_arg.Reads as reads
-use Rattle.machine.proofs.start.name_arg.Lts as lts
 use Rattle.machine.proofs.start.mode_of.Reads as mode-of-reads
 use Rattle.machine.proofs.start.name_word.Reads as name-word-reads
 use mathlib.Core.Path.{refl, sym, _∙_}

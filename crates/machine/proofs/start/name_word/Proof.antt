@@ -1,8 +1,7 @@
+-- The proof of `name_word`. Assumes nothing.
 use borrow.Author.Needs.{needs}
 use Rattle.machine.proofs.start.name_word.Statement.{statement}
 use Rattle.machine.proofs.start.name_word.Tie as tie
-use Rattle.machine.proofs.start.name_word.Reads as reads
-use Rattle.machine.proofs.start.name_word.Lts as lts
 use Rattle.machine.proofs.start.bump_cell.Reads as bump-cell-reads
 use Rattle.machine.proofs.start.word_fine.Reads as word-fine-reads
 use mathlib.Core.Path.{refl, sym, _∙_}
@@ -23,7 +22,7 @@ cast-c : tie.Need-cast-c
 cast-c c = search needs
 
 bump-cell-requires : tie.Need-bump-cell-requires
-bump-cell-requires c κs = omega (arith, word-small (c .before .before .before .before .before .before .before .args .file .now) (c .before .before .before .before .before .before .before .args .decl .now) (c .before .before .before .before .before .before .before .args .store .now) (c .before .before .before .before .before .before .before .args .w) (omega arith) (c .before .if2 .taken) (sym (c .before .before .before .word-fine .ensures) ∙ not-false _ (c .before .before .if1 .left)))
+bump-cell-requires c κs = omega (arith, word-small (c .before .before .before .before .before .before .args .codes .now) (c .before .before .before .before .before .before .args .store .now) (c .before .before .before .before .before .before .args .w) (omega arith) (c .before .if2 .taken) (sym (c .before .before .before .word-fine .ensures) ∙ not-false _ (c .before .before .if1 .left)))
 
 same-length : tie.Need-same-length
 same-length c = search needs
@@ -39,4 +38,11 @@ returns-3 c = went-on _ _ _ _ _ refl (sym (c .before .before .word-fine .ensures
 pub name-word-spec : {M : Type 1} → statement M
 name-word-spec =
     tie.close
-    (tie.spec word-fine-requires returns cast-c bump-cell-requires same-length returns-2 returns-3)
+    (tie.spec
+    word-fine-requires
+    returns
+    cast-c
+    bump-cell-requires
+    same-length
+    returns-2
+    returns-3)

@@ -1,9 +1,8 @@
+-- The proof of `used_once`. Assumes nothing.
 use Rattle.machine.proofs.start.used_once.Statement.{statement}
 use Rattle.machine.proofs.start.used_once.Tie as tie
-use Rattle.machine.proofs.start.used_once.Reads as reads
-use Rattle.machine.proofs.start.used_once.Lts as lts
 use Prim.Native.Nat.{suc, _+_, _-_, _≤_}
-use mathlib.Core.Path.{_≡_, sym, ap, _∙_}
+use mathlib.Core.Path.{_≡_, refl, sym, _∙_}
 use native.Mathlib.Omega.{arith}
 use borrow.Author.Tests.{le-leb, lt-leb}
 use lib.ListN.{getD}
@@ -13,13 +12,13 @@ use Rattle.machine.specs.StartArea.{usedOnce}
 use Rattle.machine.proofs.start.Turns.{all-in, all-out, all-none}
 
 abbrev Inv-loop : tie.InvT-loop
-Inv-loop work tail i₀ i = (i ≤ tail) × (allFrom (λ k. usedOnce work (getD work (1024 + k) 0)) tail 0 ≡ allFrom (λ k. usedOnce work (getD work (1024 + k) 0)) (tail - i) i)
+Inv-loop work from tail i₀ i = (from ≤ i) × (allFrom (λ k. usedOnce work (getD work (1024 + k) 0)) (tail - from) from ≡ allFrom (λ k. usedOnce work (getD work (1024 + k) 0)) (tail - i) i)
 
 abbrev μ-loop : tie.MeasureT-loop
-μ-loop work tail i₀ i = tail - i
+μ-loop work from tail i₀ i = tail - i
 
 loop-holds : tie.Need-loop-holds Inv-loop μ-loop
-loop-holds c = let e : c .args .tail ≡ c .args .tail - 0 = omega arith in (omega arith, ap (λ n. allFrom (λ k. usedOnce (c .args .work .now) (getD (c .args .work .now) (1024 + k) 0)) n 0) e)
+loop-holds c = (omega arith, refl)
 
 add-c : tie.Need-add-c Inv-loop μ-loop
 add-c c = omega arith

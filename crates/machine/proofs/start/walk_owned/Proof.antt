@@ -1,8 +1,7 @@
+-- The proof of `walk_owned`. Assumes nothing.
 use borrow.Author.Needs.{needs}
 use Rattle.machine.proofs.start.walk_owned.Statement.{statement}
 use Rattle.machine.proofs.start.walk_owned.Tie as tie
-use Rattle.machine.proofs.start.walk_owned.Reads as reads
-use Rattle.machine.proofs.start.walk_owned.Lts as lts
 use Rattle.machine.proofs.start.clear.Reads as clear-reads
 use Rattle.machine.proofs.start.drain_queue.Reads as drain-queue-reads
 use Rattle.machine.proofs.start.name_args.Reads as name-args-reads
@@ -25,17 +24,17 @@ same-length : tie.Need-same-length
 same-length c = search needs
 
 returns : tie.Need-returns
-returns c = went-bad _ _ _ _ (c .before .before .before .name-args .ensures .same ∙ ap (wiped 4096) (c .before .before .before .before .before .before .before .clear .ensures) ∙ wiped-cleared 0 (length (c .before .before .before .before .before .before .before .before .before .before .before .before .before .args .store .now) / 5) (c .before .before .before .before .before .before .before .before .before .before .before .before .before .args .work .now) (omega arith)) (owned-stops (c .before .before .before .before .before .before .before .before .before .before .before .before .before .args .file .now) (c .before .before .before .before .before .before .before .before .before .before .before .before .before .args .decl .now) (c .before .before .before .before .before .before .before .before .before .before .before .before .before .args .store .now) (c .before .before .before .before .before .before .before .before .before .before .before .before .before .args .args .now) (c .before .before .before .before .before .before .before .before .before .before .before .before .before .args .work .now) (c .before .before .before .name-args .ensures .out (c .if1 .taken)))
+returns c = went-bad _ _ _ _ (c .before .before .before .name-args .ensures .same ∙ ap (wiped 4096) (c .before .before .before .before .before .before .before .clear .ensures) ∙ wiped-cleared 0 (length (c .before .before .before .before .before .before .before .before .before .before .before .before .before .args .store .now) / 5) (c .before .before .before .before .before .before .before .before .before .before .before .before .before .args .work .now) (omega arith)) (owned-stops (c .before .before .before .before .before .before .before .before .before .before .before .before .before .args .file .now) (c .before .before .before .before .before .before .before .before .before .before .before .before .before .args .decl .now) (c .before .before .before .before .before .before .before .before .before .before .before .before .before .args .codes .now) (c .before .before .before .before .before .before .before .before .before .before .before .before .before .args .store .now) (c .before .before .before .before .before .before .before .before .before .before .before .before .before .args .args .now) (c .before .before .before .before .before .before .before .before .before .before .before .before .before .args .work .now) (c .before .before .before .name-args .ensures .out (c .if1 .taken)))
 
 drain-queue-requires : tie.Need-drain-queue-requires
-drain-queue-requires c κs = omega (arith, c .before .before .before .before .name-args .ensures .on (c .before .if1 .left) .2, c .before .before .before .before .name-args .kept .1 .1 .1 .1 .0, c .before .before .before .before .before .before .before .before .clear .kept .0)
+drain-queue-requires c κs = omega (arith, c .before .before .before .before .name-args .ensures .on (c .before .if1 .left) .2, c .before .before .before .before .name-args .kept .1 .1 .1 .1 .1 .0, c .before .before .before .before .before .before .before .before .clear .kept .0)
 
 same-length-2 : tie.Need-same-length-2
 same-length-2 c = search needs
 
 returns-2 : tie.Need-returns-2
 returns-2 c =
-    let x = owned-goes (c .before .before .before .before .before .before .before .before .before .before .before .before .before .before .before .before .before .args .file .now) (c .before .before .before .before .before .before .before .before .before .before .before .before .before .before .before .before .before .args .decl .now) (c .before .before .before .before .before .before .before .before .before .before .before .before .before .before .before .before .before .args .store .now) (c .before .before .before .before .before .before .before .before .before .before .before .before .before .before .before .before .before .args .args .now) (c .before .before .before .before .before .before .before .before .before .before .before .before .before .before .before .before .before .args .work .now) _ (c .before .before .before .before .before .before .before .name-args .ensures .on (c .before .before .before .before .if1 .left) .0) (c .before .before .before .before .before .before .before .name-args .ensures .on (c .before .before .before .before .if1 .left) .1 ∙ ap (λ w. argsAt (c .before .before .before .before .before .before .before .before .before .before .before .before .before .before .before .before .before .args .file .now) (c .before .before .before .before .before .before .before .before .before .before .before .before .before .before .before .before .before .args .decl .now) (c .before .before .before .before .before .before .before .before .before .before .before .before .before .before .before .before .before .args .store .now) 0 (c .before .before .before .before .before .before .before .before .before .before .before .before .before .before .before .before .before .args .args .now) 2 (length (c .before .before .before .before .before .before .before .before .before .before .before .before .before .before .before .before .before .args .args .now)) 0 (area w 0)) (c .before .before .before .before .before .before .before .before .before .before .before .clear .ensures)) in
+    let x = owned-goes (c .before .before .before .before .before .before .before .before .before .before .before .before .before .before .before .before .before .args .file .now) (c .before .before .before .before .before .before .before .before .before .before .before .before .before .before .before .before .before .args .decl .now) (c .before .before .before .before .before .before .before .before .before .before .before .before .before .before .before .before .before .args .codes .now) (c .before .before .before .before .before .before .before .before .before .before .before .before .before .before .before .before .before .args .store .now) (c .before .before .before .before .before .before .before .before .before .before .before .before .before .before .before .before .before .args .args .now) (c .before .before .before .before .before .before .before .before .before .before .before .before .before .before .before .before .before .args .work .now) _ (c .before .before .before .before .before .before .before .name-args .ensures .on (c .before .before .before .before .if1 .left) .0) (c .before .before .before .before .before .before .before .name-args .ensures .on (c .before .before .before .before .if1 .left) .1 ∙ ap (λ w. argsAt (c .before .before .before .before .before .before .before .before .before .before .before .before .before .before .before .before .before .args .file .now) (c .before .before .before .before .before .before .before .before .before .before .before .before .before .before .before .before .before .args .decl .now) (c .before .before .before .before .before .before .before .before .before .before .before .before .before .before .before .before .before .args .codes .now) (c .before .before .before .before .before .before .before .before .before .before .before .before .before .before .before .before .before .args .store .now) 0 (c .before .before .before .before .before .before .before .before .before .before .before .before .before .before .before .before .before .args .args .now) 2 (length (c .before .before .before .before .before .before .before .before .before .before .before .before .before .before .before .before .before .args .args .now)) 0 (area w 0)) (c .before .before .before .before .before .before .before .before .before .before .before .clear .ensures)) in
     went-after _ _ _ _ _ _ _ _ (c .before .before .before .before .before .before .before .name-args .ensures .same ∙ ap (wiped 4096) (c .before .before .before .before .before .before .before .before .before .before .before .clear .ensures) ∙ wiped-cleared 0 (length (c .before .before .before .before .before .before .before .before .before .before .before .before .before .before .before .before .before .args .store .now) / 5) (c .before .before .before .before .before .before .before .before .before .before .before .before .before .before .before .before .before .args .work .now) (omega arith)) (x .0) (x .1) (c .before .before .drain-queue .ensures)
 
 pub walk-owned-spec : {M : Type 1} → statement M

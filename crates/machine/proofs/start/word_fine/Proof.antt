@@ -1,8 +1,7 @@
+-- The proof of `word_fine`. Assumes nothing.
 use borrow.Author.Needs.{needs}
 use Rattle.machine.proofs.start.word_fine.Statement.{statement}
 use Rattle.machine.proofs.start.word_fine.Tie as tie
-use Rattle.machine.proofs.start.word_fine.Reads as reads
-use Rattle.machine.proofs.start.word_fine.Lts as lts
 use Rattle.machine.proofs.start.cell_fine.Reads as cell-fine-reads
 use borrow.Author.Tests.{le-leb, lt-leb}
 use Rattle.meaning.specs.Choice.{pick}
