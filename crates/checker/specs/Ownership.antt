@@ -1,6 +1,6 @@
 -- What the ownership check's records take, bind and are followed by, by the bytes. Assumes nothing.
 use Prim.Native.Nat.{ℕ, zero, suc, _+_, _*_, _^_}
-use mathlib.Core.Bool.{Bool, false, _&&_}
+use mathlib.Core.Bool.{Bool, true, false, _&&_}
 use mathlib.Core.List.{List}
 use lib.ListN.{getD, set}
 use lib.Dec.{eqb, leb}
@@ -95,6 +95,36 @@ module _ (bytes decl : List ℕ) (at : ℕ) (slots : List Slot) (bound : ℕ) wh
       (pick (eqb m 10) (takeAt bytes at slots bound 2 want.Looked)
       (pick (eqb m 13) (pairOf bytes at slots bound)
       (pick (eqb m 14) (takeAt bytes at slots bound 2 want.Number) (fine 0))))))))
+
+  -- the same in two parts, as the code has it: what takes a list or closes the path, and (below) what names a slot or two
+  unfoldable pub manyOf : (mark result : ℕ) → Taken
+  manyOf m result =
+      pick (eqb m 4) (giveOf bytes at slots bound result)
+      (pick (eqb m 6) makeOf
+      (pick (eqb m 7) callOf
+      (pick (eqb m 8) (tailOf result) (fine 0))))
+
+unfoldable pub takesMany : (mark : ℕ) → Bool
+takesMany m = pick (eqb m 4) true (pick (eqb m 6) true (pick (eqb m 7) true (pick (eqb m 8) true false)))
+
+-- where a record names its first slot
+unfoldable pub firstPlace : (mark at : ℕ) → ℕ
+firstPlace m at = pick (eqb m 13) (at + 3) (at + 2)
+
+module _ (bytes : List ℕ) where
+  -- the slot that is named at a place, by its kind
+  unfoldable pub namedOf : (place : ℕ) → Kind → Want → (bound : ℕ) → Taken
+  namedOf p k w bound = pick (leb bound (byteAt bytes p)) (fault 7 p) (takeKind k (byteAt bytes p) p w false 0)
+
+  unfoldable pub twoOf : (place : ℕ) → (first second : Kind) → (bound : ℕ) → Taken
+  twoOf p a b bound = onFine (namedOf p a want.Number bound) (namedOf (p + 1) b want.Number bound)
+
+  unfoldable pub namesOf : (mark place : ℕ) → (first second : Kind) → (bound : ℕ) → Taken
+  namesOf m p a b bound =
+      pick (eqb m 9) (namedOf p a want.Owned bound)
+      (pick (eqb m 10) (namedOf p a want.Looked bound)
+      (pick (eqb m 13) (twoOf p a b bound)
+      (pick (eqb m 14) (namedOf p a want.Number bound) (fine 0))))
 
 module _ (bytes decl : List ℕ) (at : ℕ) where
   -- the kind of slot that it binds

@@ -3,9 +3,9 @@ use crate::slots::Want;
 use crate::slots::current;
 use crate::slots::fresh_slots;
 use crate::slots::has;
-use crate::slots::keep;
 use crate::slots::kind_of;
 use crate::slots::left_over;
+use crate::slots::spend;
 use crate::slots::spends;
 use crate::slots::test;
 use crate::slots::want_back;
@@ -26,14 +26,14 @@ use meaning::find_mark;
 use meaning::mark_row;
 ghost use mathlib.Core.Path.{_≡_};
 ghost use mathlib.Core.Bool.{Bool, true, false};
-ghost use Prim.Native.Nat.{_+_, _*_, _^_, _<_, _≤_};
+ghost use Prim.Native.Nat.{_+_, _*_, _^_, _%_, _<_, _≤_};
 ghost use lib.ListN.{length, set, getD};
 ghost use lib.Bits.{bitOr};
 ghost use Rattle.meaning.specs.Choice.{pick};
 ghost use Rattle.meaning.specs.Marks.{findMark, rowAt};
 ghost use Rattle.standing.specs.Bytes.{byteAt, markAt, arityIn, fieldsIn, paramsIn, modesIn, bodyIn};
 ghost use Rattle.checker.specs.OwnershipBits.{bitsOf};
-ghost use Rattle.checker.specs.Ownership.{fine, fault, resultIn, takeKind, takeOf, barsOf, listOf, closeOf, makeOf, callOf, giveOf, tailOf, pairOf, takenOf, kindBy, namedBy, thenOf, laidOf, creditsOf, branchOf};
+ghost use Rattle.checker.specs.Ownership.{fine, fault, resultIn, takeKind, takeOf, barsOf, listOf, closeOf, makeOf, callOf, giveOf, tailOf, manyOf, takesMany, namedOf, twoOf, namesOf, firstPlace, kindBy, namedBy, thenOf, laidOf, creditsOf, branchOf};
 ghost use Rattle.checker.specs.OwnershipReady.{Ready, Judged, ReadyAll, JudgedAll, ReadyBody, JudgedBody, ReadyFile, JudgedFile};
 
 // What a record takes: the slots that it spends, as bits; or, where the number is not 0, a fault and its place.
@@ -192,18 +192,6 @@ fn take(file: &[u8], at: usize, want: Want, slots: [Slot; 32], bound: usize) -> 
     take_kind(kind, i, at, want, false, 0)
 }
 
-// AR: two numbers.
-fn take_pair(file: &[u8], at: usize, slots: [Slot; 32], bound: usize) -> Taken
-    requires { ⌜ (bound ≤ 32) × (at ≤ 4096) ⌝ }
-    ensures { λ r. ⌜ r ≡ pairOf (now (file .entry)) at slots bound ⌝ }
-{
-    let t = take(file, at + 3, Want::Number, slots, bound);
-    if t.number != 0 {
-        return t;
-    }
-    take(file, at + 4, Want::Number, slots, bound)
-}
-
 // Does the slot count as used because it stands earlier in the list?
 fn bars(want: Want, earlier: u32, i: usize) -> bool
     requires { ⌜ i < 32 ⌝ }
@@ -325,8 +313,8 @@ fn take_tail(
     close(t, at, slots, bound)
 }
 
-// What a node's record takes.
-fn take_record(
+// What the record of GV, MK, CL or TL takes: a list, or all that is left.
+fn take_many(
     file: &[u8],
     decl: &[u32; 128],
     at: usize,
@@ -336,19 +324,84 @@ fn take_record(
     bound: usize,
 ) -> Taken
     requires { ⌜ (bound ≤ 32) × (at ≤ 4096) × (length (now decl) ≡ 128) ⌝ }
-    ensures { λ r. ⌜ r ≡ takenOf (now (file .entry)) (now (decl .entry)) at slots bound m result ⌝ }
+    ensures { λ r. ⌜ r ≡ manyOf (now (file .entry)) (now (decl .entry)) at slots bound m result ⌝ }
 {
     match m {
         GV => take_give(file, at, result, slots, bound),
         MK => take_make(file, decl, at, slots, bound),
         CL => take_call(file, decl, at, slots, bound),
         TL => take_tail(file, decl, at, result, slots, bound),
-        OP => take(file, at + 2, Want::Owned, slots, bound),
-        LK => take(file, at + 2, Want::Looked, slots, bound),
-        AR => take_pair(file, at, slots, bound),
-        IF => take(file, at + 2, Want::Number, slots, bound),
         _ => fine(0),
     }
+}
+
+// Does take_many say what the record takes?
+fn takes_many(m: usize) -> bool
+    ensures { λ r. ⌜ r ≡ takesMany m ⌝ }
+{
+    match m {
+        GV => true,
+        MK => true,
+        CL => true,
+        TL => true,
+        _ => false,
+    }
+}
+
+// The slot that is named at a place, by its kind.
+fn take_one(file: &[u8], place: usize, kind: Kind, want: Want, bound: usize) -> Taken
+    requires { ⌜ bound ≤ 32 ⌝ }
+    ensures { λ r. ⌜ r ≡ namedOf (now (file .entry)) place kind want bound ⌝ }
+{
+    let i = byte(file, place);
+    if bound <= i {
+        return fault(7, place);
+    }
+    take_kind(kind, i, place, want, false, 0)
+}
+
+// AR: two numbers, by their kinds.
+fn take_pair(file: &[u8], place: usize, first: Kind, second: Kind, bound: usize) -> Taken
+    requires { ⌜ (bound ≤ 32) × (place ≤ 4099) ⌝ }
+    ensures { λ r. ⌜ r ≡ twoOf (now (file .entry)) place first second bound ⌝ }
+{
+    let t = take_one(file, place, first, Want::Number, bound);
+    if t.number != 0 {
+        return t;
+    }
+    take_one(file, place + 1, second, Want::Number, bound)
+}
+
+// What the record of OP, LK, AR or IF takes, by the kinds of the slots that are named from a place on; no other takes so.
+fn take_named(file: &[u8], m: usize, place: usize, first: Kind, second: Kind, bound: usize) -> Taken
+    requires { ⌜ (bound ≤ 32) × (place ≤ 4099) ⌝ }
+    ensures { λ r. ⌜ r ≡ namesOf (now (file .entry)) m place first second bound ⌝ }
+{
+    match m {
+        OP => take_one(file, place, first, Want::Owned, bound),
+        LK => take_one(file, place, first, Want::Looked, bound),
+        AR => take_pair(file, place, first, second, bound),
+        IF => take_one(file, place, first, Want::Number, bound),
+        _ => fine(0),
+    }
+}
+
+// Where a record names its first slot.
+fn first_place(m: usize, at: usize) -> usize
+    requires { ⌜ at ≤ 4096 ⌝ }
+    ensures { λ r. ⌜ (r ≡ firstPlace m at) × (r ≤ 4099) ⌝ }
+{
+    if m == AR {
+        return at + 3;
+    }
+    at + 2
+}
+
+// The slot that is named at a place, as an index of the array.
+fn slot_index(file: &[u8], at: usize) -> usize
+    ensures { λ r. ⌜ (r ≡ byteAt (now (file .entry)) at % 32) × (r < 32) ⌝ }
+{
+    byte(file, at) % 32
 }
 
 // The kind of slot that a node binds, if it binds one.
@@ -491,13 +544,33 @@ fn check_term(
     ensures { λ r. ⌜ Judged (now (file .entry)) (now (decl .entry)) at result slots bound r ⌝ }
 {
     let m = mark(file, at);
-    let t = take_record(file, decl, at, m, result, slots, bound);
+    let p = first_place(m, at);
+    let i = slot_index(file, p);
+    let j = slot_index(file, p + 1);
+    let mut inner = slots;
+    let one = inner[i];
+    let two = inner[j];
+    let first = one.kind;
+    let second = two.kind;
+    let mut t = take_named(file, m, p, first, second, bound);
+    if takes_many(m) {
+        t = take_many(file, decl, at, m, result, inner, bound);
+    }
     if t.number != 0 {
         return Checked::Fault(t.number, t.place);
     }
+    if t.spent != 0 {
+        let left = spend(inner, t.spent);
+        inner = left;
+    }
     let more = bound + binds(m);
-    let kind = bound_kind(file, decl, at, m);
-    let inner = keep(slots, t.spent, bound, more, kind, at);
+    if bound < more {
+        let kind = bound_kind(file, decl, at, m);
+        inner[bound] = Slot {
+            kind,
+            place: at as u16,
+        };
+    }
     let then = follows(file, decl, at, m);
     match then {
         Then::Leaf(next) => Checked::Next(next),

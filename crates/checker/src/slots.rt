@@ -10,7 +10,7 @@ ghost use Rattle.meaning.specs.Sets.{first};
 ghost use Rattle.meaning.specs.Ownership.{fits, sized, leftover, remains};
 ghost use Rattle.meaning.specs.Ownership as tree;
 ghost use Rattle.checker.specs.OwnershipBits.{bitsOf};
-ghost use Rattle.checker.specs.Slots.{kindOf, usedIn, usedKind, nowKind, wantOf, spendsOf, testOf, kindAt, wantAt, wantBack, slotsOf, spentBy, keptOf, unbound};
+ghost use Rattle.checker.specs.Slots.{kindOf, usedIn, usedKind, nowKind, wantOf, spendsOf, testOf, kindAt, wantAt, wantBack, slotsOf, spentBy, unbound};
 
 // What a record asks of a slot: a number, a lent tree to look at, a tree to lend, an owned tree, or a credit of a size.
 pub(crate) enum Want {
@@ -301,17 +301,9 @@ pub(crate) fn left_over(slots: [Slot; 32], bound: usize, spent: u32) -> bool
     false
 }
 
-// The slots with those of the set spent, and the next one bound where there are to be more.
-pub(crate) fn keep(
-    slots: [Slot; 32],
-    spent: u32,
-    bound: usize,
-    more: usize,
-    kind: Kind,
-    at: usize,
-) -> [Slot; 32]
-    requires { ⌜ (more ≤ 32) × (at ≤ 4096) ⌝ }
-    ensures { λ r. ⌜ r ≡ keptOf slots spent bound more kind at ⌝ }
+// The slots with those of the set spent.
+pub(crate) fn spend(slots: [Slot; 32], spent: u32) -> [Slot; 32]
+    ensures { λ r. ⌜ r ≡ spentBy (bitsOf 32 spent) slots ⌝ }
 {
     let mut out = slots;
     let mut todo = spent;
@@ -325,12 +317,6 @@ pub(crate) fn keep(
             place: slot.place,
         };
         todo = without_lowest(todo);
-    }
-    if bound < more {
-        out[bound] = Slot {
-            kind,
-            place: at as u16,
-        };
     }
     out
 }

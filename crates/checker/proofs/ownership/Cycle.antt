@@ -8,7 +8,6 @@ use native.Mathlib.Omega.{arith}
 use lib.ListN.{length}
 use lib.Dec.{eqb}
 use borrow.Author.Tests.{eq-eqb, ne-eqb}
-use Rattle.meaning.specs.declared.Kind.{Kind}
 use Rattle.meaning.specs.declared.Slot.{Slot}
 use Rattle.meaning.specs.Marks.{findMark, rowAt}
 use Rattle.meaning.specs.Syntax.{Term, Branches, Constructor, File}
@@ -255,15 +254,15 @@ pub node-stops : {bytes decl : List ℕ} {at result : ℕ} {slots : List Slot} {
 node-stops {bytes} {decl} {at} {result} {slots} {bound} wide em et n = stops bytes decl at result slots wide bound em et n
 
 -- a node that the code has made, by what its functions ensure
-pub made : {bytes decl : List ℕ} {at result : ℕ} {slots : List Slot} {bound m b : ℕ} {t : Taken} {k : Kind} {inner : List Slot} {f : Then} → length slots ≡ 32
-    → m ≡ findMark (markAt bytes at) → t ≡ takenOf bytes decl at slots bound m result → t .number ≡ 0 → b ≡ rowAt m .binds → k ≡ kindBy bytes decl at m
-    → inner ≡ keptOf slots (t .spent) bound (bound + b) k at → f ≡ thenOf bytes decl at m → Made bytes decl at result slots bound m t (bound + b) inner f
-made {bytes} {decl} {at} {result} {slots} {bound} {m} {b} {t} wide em et n eb ek ei ef = record {
+pub made : {bytes decl : List ℕ} {at result : ℕ} {slots : List Slot} {bound m b : ℕ} {t : Taken} {inner : List Slot} {f : Then} → length slots ≡ 32
+    → m ≡ findMark (markAt bytes at) → t ≡ takenOf bytes decl at slots bound m result → t .number ≡ 0 → b ≡ rowAt m .binds
+    → inner ≡ keptOf slots (t .spent) bound (bound + b) (kindBy bytes decl at m) at → f ≡ thenOf bytes decl at m → Made bytes decl at result slots bound m t (bound + b) inner f
+made {bound = bound} wide em et n eb ei ef = record {
   wide = wide;
   mark = em;
   taken = et;
   fine = n;
   count = ap (λ x. bound + x) eb;
-  kept = ei ∙ ap (λ x. keptOf slots (t .spent) bound (bound + b) x at) ek;
+  kept = ei;
   follows = ef;
 }

@@ -1,18 +1,18 @@
--- `checker::slots::keep` meets its contract. Assumes nothing.
-use Rattle.checker.proofs.slots.keep.Statement.{statement}
-use Rattle.checker.proofs.slots.keep.Tie as tie
-use mathlib.Core.Path.{_≡_, refl, _∙_}
+-- `checker::slots::spend` meets its contract. Assumes nothing.
+use Rattle.checker.proofs.slots.spend.Statement.{statement}
+use Rattle.checker.proofs.slots.spend.Tie as tie
+use mathlib.Core.Path.{_≡_, refl, sym, _∙_}
 use Rattle.checker.specs.OwnershipBits.{bitsOf}
 use Rattle.checker.specs.Slots.{spentBy}
-use Rattle.checker.proofs.ownership.Turns.{kept-turn, kept-none, kept-bound, kept-all}
+use Rattle.checker.proofs.ownership.Turns.{kept-turn, kept-none}
 use borrow.Author.Needs.{needs}
 use native.Mathlib.Omega.{arith}
 
 abbrev Inv-loop : tie.InvT-loop
-Inv-loop spent bound more kind at out₀ todo₀ out todo = spentBy (bitsOf 32 spent) out₀ ≡ spentBy (bitsOf 32 todo) out
+Inv-loop spent out₀ todo₀ out todo = spentBy (bitsOf 32 spent) out₀ ≡ spentBy (bitsOf 32 todo) out
 
 abbrev μ-loop : tie.MeasureT-loop
-μ-loop spent bound more kind at out₀ todo₀ out todo = todo
+μ-loop spent out₀ todo₀ out todo = todo
 
 loop-holds : tie.Need-loop-holds Inv-loop μ-loop
 loop-holds c = refl
@@ -44,23 +44,11 @@ loop-less c = omega arith
 loop-again : tie.Need-loop-again Inv-loop μ-loop
 loop-again c = c .before .before .before .before .before .loop .inv ∙ kept-turn _ _ _ _ _ (c .before .before .before .lowest .ensures .0) (c .before .before .before .lowest .ensures .1) (c .without-lowest .ensures .0) (c .before .used .ensures)
 
-cast-t21 : tie.Need-cast-t21 Inv-loop μ-loop
-cast-t21 c = omega arith
-
-mul-out-2 : tie.Need-mul-out-2 Inv-loop μ-loop
-mul-out-2 c = omega arith
-
-array-set-from-out-2 : tie.Need-array-set-from-out-2 Inv-loop μ-loop
-array-set-from-out-2 c = omega arith
-
 returns : tie.Need-returns Inv-loop μ-loop
-returns c = kept-bound _ _ _ _ _ _ _ (c .before .before .loop .inv ∙ kept-none _ _ (c .before .loop-test .left)) (c .if1 .taken)
+returns c = sym (c .before .loop .inv ∙ kept-none _ _ (c .loop-test .left))
 
-returns-2 : tie.Need-returns-2 Inv-loop μ-loop
-returns-2 c = kept-all _ _ _ _ _ _ _ (c .before .before .loop .inv ∙ kept-none _ _ (c .before .loop-test .left)) (c .if1 .left)
-
-pub keep-spec : {M : Type 1} → statement M
-keep-spec =
+pub spend-spec : {M : Type 1} → statement M
+spend-spec =
     tie.close
     (tie.spec
     Inv-loop
@@ -75,8 +63,4 @@ keep-spec =
     without-lowest-requires
     loop-less
     loop-again
-    cast-t21
-    mul-out-2
-    array-set-from-out-2
-    returns
-    returns-2)
+    returns)
