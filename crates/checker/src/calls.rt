@@ -25,7 +25,7 @@ ghost use Rattle.meaning.specs.Answers.{told};
 ghost use Rattle.standing.specs.Bytes.{byteAt, markAt, paramsIn, bodyIn};
 ghost use Rattle.standing.specs.Table.{Declared};
 ghost use Rattle.checker.specs.Bits.{bitsOf, filled, member, closure, onward, Settles};
-ghost use Rattle.checker.specs.Scan.{noted-in, countIn, listed, follow, size, rowIn, squareIn, goes, Counted, Within};
+ghost use Rattle.checker.specs.Scan.{countIn, listed, follow, size, rowIn, squareIn, goes, Counted, Within};
 
 // ---- the records of a body
 
@@ -159,19 +159,6 @@ fn stronger(a: How, b: How) -> How
     }
 }
 
-// A row with one call more; a callee past the row is none.
-fn noted(row: [How; 32], named: usize, how: How) -> [How; 32]
-    ensures { λ r. ⌜ r ≡ noted-in row named how ⌝ }
-{
-    let mut out = row;
-    if named < 32 {
-        let was = out[named];
-        let now = stronger(was, how);
-        out[named] = now;
-    }
-    out
-}
-
 // A function's row: the records of its body stand one after the other, until no term is left to begin.
 fn row_of(file: &[u8], decl: &[u32; 128], f: usize) -> [How; 32]
     requires { ⌜ (length (now file) ≤ 4096) × (f < 32) ⌝ }
@@ -187,12 +174,18 @@ fn row_of(file: &[u8], decl: &[u32; 128], f: usize) -> [How; 32]
         let m = mark_at(file, at);
         let named = wide(file[at + 2]);
         if m == CL {
-            let more = noted(row, named, How::Waits);
-            row = more;
+            if named < 32 {
+                let was = row[named];
+                let now = stronger(was, How::Waits);
+                row[named] = now;
+            }
         }
         if m == TL {
-            let more = noted(row, named, How::Tail);
-            row = more;
+            if named < 32 {
+                let was = row[named];
+                let now = stronger(was, How::Tail);
+                row[named] = now;
+            }
         }
         left = left - 1 + follow(file, at, m);
         at = at + size(decl, m, named);

@@ -2,9 +2,10 @@
 use Prim.Native.Nat.{ℕ, zero, suc, _+_, _-_, _≤_, _<_}
 use mathlib.Core.List.{List, [], _∷_, _++_}
 use mathlib.Core.Path.{_≡_, refl, sym, ap, ap₂, _∙_}
+use mathlib.Core.Logic.{_⊎_, inl, inr}
 use native.Mathlib.Omega.{arith}
 use native.Mathlib.Decide.{decLt}
-use lib.ListN.{length, getD, set, replicate}
+use lib.ListN.{length, getD, set, replicate, length-set}
 use lib.Seq.{set-getD, getD-set-other}
 use borrow.Author.Tests.{lt-ltb, ne-eqb}
 use Rattle.meaning.specs.declared.Call.{Call}
@@ -39,17 +40,31 @@ weakest Tail = refl
 weakest Waits = refl
 
 -- a record's mark and the call that is noted for it
-pub note-wait : (row : List How) (m c : ℕ) → m ≡ 7 → noted-in row c Waits ≡ note row m c
+note-wait : (row : List How) (m c : ℕ) → m ≡ 7 → noted-in row c Waits ≡ note row m c
 unfolding note how-of pick
 note-wait row m c e = rw e
 
-pub note-tail : (row : List How) (m c : ℕ) → m ≡ 8 → noted-in row c Tail ≡ note row m c
+note-tail : (row : List How) (m c : ℕ) → m ≡ 8 → noted-in row c Tail ≡ note row m c
 unfolding note how-of pick
 note-tail row m c e = rw e
 
-pub note-none : (row : List How) (m c : ℕ) → (m ≡ 7 → ⊥) → (m ≡ 8 → ⊥) → row ≡ note row m c
+note-none : (row : List How) (m c : ℕ) → (m ≡ 7 → ⊥) → (m ≡ 8 → ⊥) → row ≡ note row m c
 unfolding note how-of pick
 note-none row m c h k = rw (ne-eqb m 7 h, ne-eqb m 8 k) (sym (ap (set row c) (weakest (getD row c Never)) ∙ set-getD row c Never))
+
+-- a row before and behind the place where a call of one way is noted, if the record is one
+abbrev pub Noted : (mark : ℕ) → How → (m c : ℕ) → (row row′ : List How) → Type 0
+Noted k h m c row row′ = ((m ≡ k) × (row′ ≡ noted-in row c h)) ⊎ ((m ≡ k → ⊥) × (row′ ≡ row))
+
+pub noted-length : (k : ℕ) (h : How) (m c : ℕ) (row row′ : List How) → Noted k h m c row row′ → length row ≡ 32 → length row′ ≡ 32
+noted-length k h m c row row′ (inl a) l = ap length (a .1) ∙ length-set row c _ ∙ l
+noted-length k h m c row row′ (inr a) l = ap length (a .1) ∙ l
+
+pub note-both : (m c : ℕ) (row row₁ row₂ : List How) → Noted 7 Waits m c row row₁ → Noted 8 Tail m c row₁ row₂ → row₂ ≡ note row m c
+note-both m c row row₁ row₂ (inl a) (inl b) = absurd (omega (arith, a .0, b .0))
+note-both m c row row₁ row₂ (inl a) (inr b) = b .1 ∙ a .1 ∙ note-wait row m c (a .0)
+note-both m c row row₁ row₂ (inr a) (inl b) = b .1 ∙ ap (λ r. noted-in r c Tail) (a .1) ∙ note-tail row m c (b .0)
+note-both m c row row₁ row₂ (inr a) (inr b) = b .1 ∙ a .1 ∙ note-none row m c (a .0) (b .0)
 
 module _ (file : File) (bytes table : List ℕ) (declared : Declared file bytes table) where
   abbrev S : (at left : ℕ) → List How → List How

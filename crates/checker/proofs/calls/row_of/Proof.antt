@@ -5,21 +5,22 @@ use Rattle.checker.proofs.calls.row_of.Lts as lts
 use Rattle.checker.proofs.calls.body.Reads as body-reads
 use Rattle.checker.proofs.calls.follow.Reads as follow-reads
 use Rattle.checker.proofs.calls.mark_at.Reads as mark-at-reads
-use Rattle.checker.proofs.calls.noted.Reads as noted-reads
 use Rattle.checker.proofs.calls.size.Reads as size-reads
+use Rattle.checker.proofs.calls.stronger.Reads as stronger-reads
 use Rattle.checker.proofs.calls.wide.Reads as wide-reads
 use borrow.Author.Needs.{needs}
 use borrow.Author.Needs.{needs}
 use Prim.Native.Nat.{_+_, _-_, _*_, _≤_, _<_}
 use mathlib.Core.Path.{_≡_, refl, sym, ap, _∙_}
-use mathlib.Core.Logic.{⊎-elim}
+use mathlib.Core.Logic.{inl, inr, ⊎-elim}
 use native.Mathlib.Omega.{arith}
-use lib.ListN.{length, length-set}
-use Rattle.meaning.specs.declared.How.the-variants.{Tail}
+use lib.ListN.{length, set, length-set}
+use lib.Seq.{set-out}
+use Rattle.meaning.specs.declared.How.the-variants.{Tail, Waits}
 use Rattle.standing.specs.Bytes.{byteAt}
-use Rattle.checker.specs.Scan.{size, follow, noted-in, note, scanFrom, no-row, rowIn}
+use Rattle.checker.specs.Scan.{size, follow, note, scanFrom, no-row, rowIn}
 use Rattle.checker.proofs.calls.Scanning.{scan-stop, scan-end, scan-turn}
-use Rattle.checker.proofs.calls.Rows.{note-wait, note-tail, note-none}
+use Rattle.checker.proofs.calls.Rows.{Noted, noted-length, note-both}
 
 abbrev Inv-loop : tie.InvT-loop
 Inv-loop file decl f row₀ at₀ left₀ row at left = (at < 4294972000) × (left ≤ 1 + 256 * at) × (length row ≡ 32) × (rowIn file decl f ≡ scanFrom file decl at left row)
@@ -52,11 +53,23 @@ shared-slice-read-wide c = search needs
 wide-requires : tie.Need-wide-requires Inv-loop μ-loop
 wide-requires c κs = search needs
 
-noted-requires : tie.Need-noted-requires Inv-loop μ-loop
-noted-requires c κs = search needs
+array-copy-out-was : tie.Need-array-copy-out-was Inv-loop μ-loop
+array-copy-out-was c = search needs
 
-noted-requires-2 : tie.Need-noted-requires-2 Inv-loop μ-loop
-noted-requires-2 c κs = search needs
+stronger-requires : tie.Need-stronger-requires Inv-loop μ-loop
+stronger-requires c κs = search needs
+
+array-set-from-row : tie.Need-array-set-from-row Inv-loop μ-loop
+array-set-from-row c = search needs
+
+array-copy-out-was-2 : tie.Need-array-copy-out-was-2 Inv-loop μ-loop
+array-copy-out-was-2 c = search needs
+
+stronger-requires-2 : tie.Need-stronger-requires-2 Inv-loop μ-loop
+stronger-requires-2 c κs = search needs
+
+array-set-from-row-2 : tie.Need-array-set-from-row-2 Inv-loop μ-loop
+array-set-from-row-2 c = search needs
 
 sub-left : tie.Need-sub-left Inv-loop μ-loop
 sub-left c = search needs
@@ -77,7 +90,6 @@ loop-less : tie.Need-loop-less Inv-loop μ-loop
 loop-less c = search needs
 
 loop-again : tie.Need-loop-again Inv-loop μ-loop
-unfolding note
 loop-again c =
     let bytes = c .before .before .before .before .before .before .before .before .before .before .before .before .args .file .now in
     let table = c .before .before .before .before .before .before .before .before .before .before .before .before .args .decl .now in
@@ -86,16 +98,22 @@ loop-again c =
     let row = c .before .before .before .before .before .before .before .before .before .loop .row in
     let m = c .before .before .before .before .before .before .mark-at .result in
     let named = c .before .before .before .before .wide .result in
-    let e =
+    let a : Noted 7 Waits m named row (c .before .before .before .if2 .row) =
     ⊎-elim
-    (λ w. ⊎-elim (λ v. absurd (omega (arith, w .0 .taken, v .0 .taken))) (λ v. v .1 ∙ w .2 ∙ w .1 .ensures ∙ note-wait row m named (w .0 .taken)) (c .before .before .if3 .came))
-    (λ w. ⊎-elim (λ v. v .2 ∙ v .1 .ensures ∙ ap (λ r. noted-in r named Tail) (w .1) ∙ note-tail row m named (v .0 .taken)) (λ v. v .1 ∙ w .1 ∙ note-none row m named (w .0 .left) (v .0 .left)) (c .before .before .if3 .came))
-    (c .before .before .before .if2 .came) in (
+    (λ w. inl (w .0 .taken, w .4 ∙ ap (set row named) (w .3 .ensures)))
+    (⊎-elim (λ w. inl (w .0 .taken, w .2 ∙ sym (set-out row named _ (omega (arith, w .1 .left, c .before .before .before .before .before .before .before .before .before .loop .inv .2))))) (λ w. inr (w .0 .left, w .1)))
+    (c .before .before .before .if2 .came) in
+    let l = noted-length 7 Waits m named row (c .before .before .before .if2 .row) a (c .before .before .before .before .before .before .before .before .before .loop .inv .2) in
+    let b : Noted 8 Tail m named (c .before .before .before .if2 .row) (c .before .before .if4 .row) =
+    ⊎-elim
+    (λ w. inl (w .0 .taken, w .4 ∙ ap (set (c .before .before .before .if2 .row) named) (w .3 .ensures)))
+    (⊎-elim (λ w. inl (w .0 .taken, w .2 ∙ sym (set-out (c .before .before .before .if2 .row) named _ (omega (arith, w .1 .left, l))))) (λ w. inr (w .0 .left, w .1)))
+    (c .before .before .if4 .came) in (
       omega (arith, c .size .ensures .2),
       omega (arith, c .size .ensures .1, c .before .follow .ensures .1),
-      ap length e ∙ length-set row named _ ∙ c .before .before .before .before .before .before .before .before .before .loop .inv .2,
+      noted-length 8 Tail m named (c .before .before .before .if2 .row) (c .before .before .if4 .row) b l,
       c .before .before .before .before .before .before .before .before .before .loop .inv .3 ∙ scan-turn bytes table at left row m named (byteAt bytes (at + 3)) (c .before .before .before .before .before .before .mark-at .ensures) (c .before .before .before .before .wide .ensures .0) refl (omega arith) (c .before .before .before .before .before .before .before .if1 .left)
-          ∙ rw (c .before .follow .ensures .0, c .size .ensures .0) (ap (scanFrom bytes table (at + size table m named) (left - 1 + follow m (byteAt bytes (at + 3)))) (sym e)),
+          ∙ rw (c .before .follow .ensures .0, c .size .ensures .0) (ap (scanFrom bytes table (at + size table m named) (left - 1 + follow m (byteAt bytes (at + 3)))) (sym (note-both m named row (c .before .before .before .if2 .row) (c .before .before .if4 .row) a b))),
     )
 
 returns-2 : tie.Need-returns-2 Inv-loop μ-loop
@@ -115,8 +133,12 @@ row-of-spec =
     add-wide
     shared-slice-read-wide
     wide-requires
-    noted-requires
-    noted-requires-2
+    array-copy-out-was
+    stronger-requires
+    array-set-from-row
+    array-copy-out-was-2
+    stronger-requires-2
+    array-set-from-row-2
     sub-left
     follow-requires
     add-left
