@@ -379,36 +379,45 @@ fn read_term(file: &[u8], decl: &[u32; 128], at: usize, p: Path) -> Read
     }
 }
 
-// A list of branches, of which so many are left: where it ends, or the fault.
+// A list of so many branches: where it ends, or the fault.
 fn read_branches(
     file: &[u8],
     decl: &[u32; 128],
-    at: usize,
-    left: usize,
+    start: usize,
+    count: usize,
     credit: usize,
     p: Path,
 ) -> Read
-    requires { ⌜ (at ≤ length (now file)) × (credit ≤ 1) × (p .slots ≤ 32) × (p .nodes ≤ 64) ⌝ }
-    ensures { λ r. ⌜ From (now (file .entry)) at r × ReadsBranches (now (file .entry)) (now (decl .entry)) at left credit p r ⌝ }
+    requires { ⌜ (start ≤ length (now file)) × (credit ≤ 1) × (p .slots ≤ 32) × (p .nodes ≤ 64) ⌝ }
+    ensures { λ r. ⌜ From (now (file .entry)) start r × ReadsBranches (now (file .entry)) (now (decl .entry)) start count credit p r ⌝ }
 {
-    if left == 0 {
-        return Read::Next(at);
-    }
-    match read_branch(file, decl, at, credit, p.slots) {
-        Read::Fault(number, place) => Read::Fault(number, place),
-        Read::Next(slots) => match read_term(
-            file,
-            decl,
-            at + 3,
-            Path {
-                slots: slots,
-                nodes: p.nodes,
+    let mut at = start;
+    let mut left = count;
+    while left != 0 {
+        match read_branch(file, decl, at, credit, p.slots) {
+            Read::Fault(number, place) => {
+                return Read::Fault(number, place);
+            }
+            Read::Next(slots) => match read_term(
+                file,
+                decl,
+                at + 3,
+                Path {
+                    slots: slots,
+                    nodes: p.nodes,
+                },
+            ) {
+                Read::Next(next) => {
+                    at = next;
+                    left -= 1;
+                }
+                Read::Fault(number, place) => {
+                    return Read::Fault(number, place);
+                }
             },
-        ) {
-            Read::Next(next) => read_branches(file, decl, next, left - 1, credit, p),
-            Read::Fault(number, place) => Read::Fault(number, place),
-        },
+        }
     }
+    Read::Next(at)
 }
 
 // The mark at a place, 16 where the file ends within it.

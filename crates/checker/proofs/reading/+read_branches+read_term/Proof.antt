@@ -1,5 +1,5 @@
 -- `reading::read_term` and `reading::read_branches` meet their contracts; bytes left fall. Assumes nothing.
-use Prim.Native.Nat.{ℕ, _<_, _-_}
+use Prim.Native.Nat.{ℕ, _≤_, _<_, _-_}
 use borrow.Fn.Kinds.{In}
 use borrow.Fn.PlainCycle.{Measures, is, falls, and}
 use Rattle.checker.proofs.reading.read_branches.Reads as read-branches
@@ -16,7 +16,8 @@ use native.Mathlib.Omega.{arith}
 use mathlib.Core.Path.{sym, subst, _∙_}
 use lib.ListN.{length}
 use borrow.Author.Needs.{needs}
-use Rattle.checker.specs.Reads.{ReadsTerm}
+use Rattle.checker.specs.declared.reading.Read.{Read}
+use Rattle.checker.specs.Reads.{ReadsTerm, ReadsBranches}
 use Rattle.checker.proofs.reading.Steps.{from-next, from-off, goes, leaf-of, one-of, two-of, many-of, fault-of, branch-of, branch-off, leaf-reads, fault-reads, one-reads, two-stops, two-reads, many-reads, end-reads, branch-stops, term-stops, branch-reads, from-on, from-here, from-past, from-at, from-late, pred-is}
 
 abbrev μ-read-branches : Measures 2 read-branches-kinds.ps ℕ
@@ -45,68 +46,77 @@ read-term-below t =
     and 2 read-term-kinds.ps (falls 2 read-term-kinds.ps _<_ μ-read-term t) read-term.Pre
 
 abbrev read-branches-calls : ℕ → read-branches-lts.Claims
-read-branches-calls t = (read-branch-reads.Asked, read-branch-reads.Learnt, read-term-below t, read-term.Post, read-branches-below t, read-branches.Post)
+read-branches-calls t = (read-branch-reads.Asked, read-branch-reads.Learnt, read-term-below t, read-term.Post)
 
 abbrev read-term-calls : ℕ → read-term-lts.Claims
 read-term-calls t = (read-row-reads.Asked, read-row-reads.Learnt, read-term-below t, read-term.Post, read-branches-below t, read-branches.Post)
 
-read-branches-returns : (t : ℕ) → read-branches-lts.Need-returns (read-branches-calls t) (read-branches-at t) read-branches.Post
-read-branches-returns t c = (from-here (c .before .before .pre .1 .0), end-reads _ _ _ _ _ (c .before .before .pre .1 .0) (c .before .before .pre .1 .3) _ (c .if1 .taken))
+abbrev read-branches-Inv-loop : read-branches-lts.InvT-loop
+read-branches-Inv-loop file decl start count credit p at₀ left₀ at left =
+    (start ≤ at) × (at ≤ length file) × ((r : Read) → ReadsBranches file decl at left credit p r → ReadsBranches file decl start count credit p r)
 
-read-branches-read-branch-requires : (t : ℕ) → read-branches-lts.Need-read-branch-requires (read-branches-calls t) (read-branches-at t) read-branches.Post
-read-branches-read-branch-requires t c κs = (c .before .before .pre .1 .0, c .before .before .pre .1 .1, c .before .before .pre .1 .2)
+abbrev read-branches-μ-loop : read-branches-lts.MeasureT-loop
+read-branches-μ-loop file decl start count credit p at₀ left₀ at left = left
 
-read-branches-enum-known-number : (t : ℕ) → read-branches-lts.Need-enum-known-number (read-branches-calls t) (read-branches-at t) read-branches.Post
+read-branches-loop-holds : (t : ℕ) → read-branches-lts.Need-loop-holds (read-branches-calls t) (read-branches-at t) read-branches.Post read-branches-Inv-loop read-branches-μ-loop
+read-branches-loop-holds t c = (omega arith, c .before .pre .1 .0, λ r h. h)
+
+read-branches-read-branch-requires : (t : ℕ) → read-branches-lts.Need-read-branch-requires (read-branches-calls t) (read-branches-at t) read-branches.Post read-branches-Inv-loop read-branches-μ-loop
+read-branches-read-branch-requires t c κs = (c .before .loop .inv .1, c .before .before .before .pre .1 .1, c .before .before .before .pre .1 .2)
+
+read-branches-enum-known-number : (t : ℕ) → read-branches-lts.Need-enum-known-number (read-branches-calls t) (read-branches-at t) read-branches.Post read-branches-Inv-loop read-branches-μ-loop
 read-branches-enum-known-number t c = search needs
 
-read-branches-enum-known-slots : (t : ℕ) → read-branches-lts.Need-enum-known-slots (read-branches-calls t) (read-branches-at t) read-branches.Post
+read-branches-returns : (t : ℕ) → read-branches-lts.Need-returns (read-branches-calls t) (read-branches-at t) read-branches.Post read-branches-Inv-loop read-branches-μ-loop
+read-branches-returns t c =
+    let q = sym (c .before .before .before .read-branch .ensures) ∙ c .before .number .given .1 in
+    (branch-off _ _ _ _ _ (c .before .before .before .before .before .loop .inv .1) q, c .before .before .before .before .before .loop .inv .2 _ (branch-stops _ _ _ _ _ (c .before .before .before .before .before .loop .inv .1) (c .before .before .before .before .before .before .before .pre .1 .3) _ _ (pred-is _ (c .before .before .before .before .loop-test .taken)) _ _ q))
+
+read-branches-enum-known-slots : (t : ℕ) → read-branches-lts.Need-enum-known-slots (read-branches-calls t) (read-branches-at t) read-branches.Post read-branches-Inv-loop read-branches-μ-loop
 read-branches-enum-known-slots t c = search needs
 
-read-branches-add-read-term : (t : ℕ) → read-branches-lts.Need-add-read-term (read-branches-calls t) (read-branches-at t) read-branches.Post
+read-branches-add-read-term : (t : ℕ) → read-branches-lts.Need-add-read-term (read-branches-calls t) (read-branches-at t) read-branches.Post read-branches-Inv-loop read-branches-μ-loop
 read-branches-add-read-term t c =
     let q = sym (c .before .before .before .read-branch .ensures) ∙ c .before .slots .given .1 in
-    let x = branch-of _ _ _ _ _ (c .before .before .before .before .before .before .pre .1 .0) q in
+    let x = branch-of _ _ _ _ _ (c .before .before .before .before .before .loop .inv .1) q in
     omega (arith, x .0)
 
-read-branches-read-term-requires : (t : ℕ) → read-branches-lts.Need-read-term-requires (read-branches-calls t) (read-branches-at t) read-branches.Post
+read-branches-read-term-requires : (t : ℕ) → read-branches-lts.Need-read-term-requires (read-branches-calls t) (read-branches-at t) read-branches.Post read-branches-Inv-loop read-branches-μ-loop
 read-branches-read-term-requires t c κs =
     let q = sym (c .before .before .before .read-branch .ensures) ∙ c .before .slots .given .1 in
-    let x = branch-of _ _ _ _ _ (c .before .before .before .before .before .before .pre .1 .0) q in
-    (omega (arith, x .0), (x .0, x .1, c .before .before .before .before .before .before .pre .1 .3))
+    let x = branch-of _ _ _ _ _ (c .before .before .before .before .before .loop .inv .1) q in
+    (omega (arith, c .before .before .before .before .before .loop .inv .0, x .0), (x .0, x .1, c .before .before .before .before .before .before .before .pre .1 .3))
 
-read-branches-enum-known-next : (t : ℕ) → read-branches-lts.Need-enum-known-next (read-branches-calls t) (read-branches-at t) read-branches.Post
+read-branches-enum-known-next : (t : ℕ) → read-branches-lts.Need-enum-known-next (read-branches-calls t) (read-branches-at t) read-branches.Post read-branches-Inv-loop read-branches-μ-loop
 read-branches-enum-known-next t c = search needs
 
-read-branches-sub-read-branches : (t : ℕ) → read-branches-lts.Need-sub-read-branches (read-branches-calls t) (read-branches-at t) read-branches.Post
-read-branches-sub-read-branches t c = omega (arith, pred-is _ (c .before .before .before .before .before .before .before .before .if1 .left))
+read-branches-sub-left : (t : ℕ) → read-branches-lts.Need-sub-left (read-branches-calls t) (read-branches-at t) read-branches.Post read-branches-Inv-loop read-branches-μ-loop
+read-branches-sub-left t c = omega (arith, pred-is _ (c .before .before .before .before .before .before .before .before .loop-test .taken))
 
-read-branches-read-branches-requires : (t : ℕ) → read-branches-lts.Need-read-branches-requires (read-branches-calls t) (read-branches-at t) read-branches.Post
-read-branches-read-branches-requires t c κs =
+read-branches-loop-less : (t : ℕ) → read-branches-lts.Need-loop-less (read-branches-calls t) (read-branches-at t) read-branches.Post read-branches-Inv-loop read-branches-μ-loop
+read-branches-loop-less t c = omega (arith, pred-is _ (c .before .before .before .before .before .before .before .before .loop-test .taken))
+
+read-branches-loop-again : (t : ℕ) → read-branches-lts.Need-loop-again (read-branches-calls t) (read-branches-at t) read-branches.Post read-branches-Inv-loop read-branches-μ-loop
+read-branches-loop-again t c =
     let q = sym (c .before .before .before .before .before .before .before .read-branch .ensures) ∙ c .before .before .before .before .before .slots .given .1 in
-    let x = branch-of _ _ _ _ _ (c .before .before .before .before .before .before .before .before .before .before .pre .1 .0) q in
-    let y = from-next (c .before .next .given .1) (c .before .before .before .read-term .ensures .0) in
-    (omega (arith, x .0, y .0, y .1), (y .1, c .before .before .before .before .before .before .before .before .before .before .pre .1 .1, c .before .before .before .before .before .before .before .before .before .before .pre .1 .2, c .before .before .before .before .before .before .before .before .before .before .pre .1 .3))
-
-read-branches-enum-known-number-2 : (t : ℕ) → read-branches-lts.Need-enum-known-number-2 (read-branches-calls t) (read-branches-at t) read-branches.Post
-read-branches-enum-known-number-2 t c = search needs
-
-read-branches-returns-2 : (t : ℕ) → read-branches-lts.Need-returns-2 (read-branches-calls t) (read-branches-at t) read-branches.Post
-read-branches-returns-2 t c = (branch-off _ _ _ _ _ (c .before .before .before .before .before .before .pre .1 .0) (sym (c .before .before .before .read-branch .ensures) ∙ c .before .number .given .1), branch-stops _ _ _ _ _ (c .before .before .before .before .before .before .pre .1 .0) (c .before .before .before .before .before .before .pre .1 .3) _ _ (pred-is _ (c .before .before .before .before .if1 .left)) _ _ (sym (c .before .before .before .read-branch .ensures) ∙ c .before .number .given .1))
-
-read-branches-returns-3 : (t : ℕ) → read-branches-lts.Need-returns-3 (read-branches-calls t) (read-branches-at t) read-branches.Post
-read-branches-returns-3 t c =
-    let q = sym (c .before .before .before .before .before .before .before .before .read-branch .ensures) ∙ c .before .before .before .before .before .before .slots .given .1 in
-    let x = branch-of _ _ _ _ _ (c .before .before .before .before .before .before .before .before .before .before .before .pre .1 .0) q in
-    let y = from-next (c .before .before .next .given .1) (c .before .before .before .before .read-term .ensures .0) in (
-      from-late (omega (arith, x .0, y .0)) (c .read-branches .ensures .0),
-      branch-reads _ _ _ _ _ (c .before .before .before .before .before .before .before .before .before .before .before .pre .1 .0) (c .before .before .before .before .before .before .before .before .before .before .before .pre .1 .3) _ _ (pred-is _ (c .before .before .before .before .before .before .before .before .before .if1 .left)) _ _ _ q (x .0) (omega (arith, y .0)) (y .1) (subst (ReadsTerm _ _ _ _) (c .before .before .next .given .1) (c .before .before .before .before .read-term .ensures .1)) (c .read-branches .ensures .1),
+    let x = branch-of _ _ _ _ _ (c .before .before .before .before .before .before .before .before .before .loop .inv .1) q in
+    let y = from-next (c .before .next .given .1) (c .before .before .before .read-term .ensures .0) in (
+      omega (arith, c .before .before .before .before .before .before .before .before .before .loop .inv .0, x .0, y .0),
+      y .1,
+      λ r h. c .before .before .before .before .before .before .before .before .before .loop .inv .2 r (branch-reads _ _ _ _ _ (c .before .before .before .before .before .before .before .before .before .loop .inv .1) (c .before .before .before .before .before .before .before .before .before .before .before .pre .1 .3) _ _ (pred-is _ (c .before .before .before .before .before .before .before .before .loop-test .taken)) _ _ r q (x .0) (omega (arith, y .0)) (y .1) (subst (ReadsTerm _ _ _ _) (c .before .next .given .1) (c .before .before .before .read-term .ensures .1)) h),
     )
 
-read-branches-returns-4 : (t : ℕ) → read-branches-lts.Need-returns-4 (read-branches-calls t) (read-branches-at t) read-branches.Post
-read-branches-returns-4 t c =
+read-branches-enum-known-number-2 : (t : ℕ) → read-branches-lts.Need-enum-known-number-2 (read-branches-calls t) (read-branches-at t) read-branches.Post read-branches-Inv-loop read-branches-μ-loop
+read-branches-enum-known-number-2 t c = search needs
+
+read-branches-returns-2 : (t : ℕ) → read-branches-lts.Need-returns-2 (read-branches-calls t) (read-branches-at t) read-branches.Post read-branches-Inv-loop read-branches-μ-loop
+read-branches-returns-2 t c =
     let q = sym (c .before .before .before .before .before .before .before .read-branch .ensures) ∙ c .before .before .before .before .before .slots .given .1 in
-    let x = branch-of _ _ _ _ _ (c .before .before .before .before .before .before .before .before .before .before .pre .1 .0) q in
-    (from-off (c .before .number2 .given .1) (c .before .before .before .read-term .ensures .0), term-stops _ _ _ _ _ (c .before .before .before .before .before .before .before .before .before .before .pre .1 .0) (c .before .before .before .before .before .before .before .before .before .before .pre .1 .3) _ _ (pred-is _ (c .before .before .before .before .before .before .before .before .if1 .left)) _ _ _ q (x .0) (subst (ReadsTerm _ _ _ _) (c .before .number2 .given .1) (c .before .before .before .read-term .ensures .1)))
+    let x = branch-of _ _ _ _ _ (c .before .before .before .before .before .before .before .before .before .loop .inv .1) q in
+    (from-off (c .before .number2 .given .1) (c .before .before .before .read-term .ensures .0), c .before .before .before .before .before .before .before .before .before .loop .inv .2 _ (term-stops _ _ _ _ _ (c .before .before .before .before .before .before .before .before .before .loop .inv .1) (c .before .before .before .before .before .before .before .before .before .before .before .pre .1 .3) _ _ (pred-is _ (c .before .before .before .before .before .before .before .before .loop-test .taken)) _ _ _ q (x .0) (subst (ReadsTerm _ _ _ _) (c .before .number2 .given .1) (c .before .before .before .read-term .ensures .1))))
+
+read-branches-returns-3 : (t : ℕ) → read-branches-lts.Need-returns-3 (read-branches-calls t) (read-branches-at t) read-branches.Post read-branches-Inv-loop read-branches-μ-loop
+read-branches-returns-3 t c = (from-late (c .before .loop .inv .0) (from-here (c .before .loop .inv .1)), c .before .loop .inv .2 _ (end-reads _ _ _ _ _ (c .before .loop .inv .1) (c .before .before .before .pre .1 .3) _ (c .loop-test .left)))
 
 read-term-read-row-requires : (t : ℕ) → read-term-lts.Need-read-row-requires (read-term-calls t) (read-term-at t) read-term.Post
 read-term-read-row-requires t c κs = c .before .pre .1
@@ -209,19 +219,22 @@ pub +read-branches+read-term-spec : {M : Type 1} → statement M
 +read-branches+read-term-spec = close μ-read-branches μ-read-term (λ t. read-branches-lts.spec (read-branches-calls t)
     (read-branches-at t)
     read-branches.Post
-    (read-branches-returns t)
+    read-branches-Inv-loop
+    read-branches-μ-loop
+    (read-branches-loop-holds t)
     (read-branches-read-branch-requires t)
     (read-branches-enum-known-number t)
+    (read-branches-returns t)
     (read-branches-enum-known-slots t)
     (read-branches-add-read-term t)
     (read-branches-read-term-requires t)
     (read-branches-enum-known-next t)
-    (read-branches-sub-read-branches t)
-    (read-branches-read-branches-requires t)
+    (read-branches-sub-left t)
+    (read-branches-loop-less t)
+    (read-branches-loop-again t)
     (read-branches-enum-known-number-2 t)
     (read-branches-returns-2 t)
-    (read-branches-returns-3 t)
-    (read-branches-returns-4 t))
+    (read-branches-returns-3 t))
     λ t. read-term-lts.spec (read-term-calls t)
     (read-term-at t)
     read-term.Post
