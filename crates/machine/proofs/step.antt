@@ -1,6 +1,7 @@
 pub mod Marked
 pub mod Words
 pub mod Skipping
+pub mod Passing
 pub mod Ends
 pub mod Nodes
 pub mod Laying

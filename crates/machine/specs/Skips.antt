@@ -28,8 +28,21 @@ thenAt Mark.CN bytes decl at = Leaf (past Mark.CN at)
 thenAt Mark.FN bytes decl at = Leaf (past Mark.FN at)
 thenAt Mark.BD bytes decl at = Leaf (past Mark.BD at)
 thenAt Mark.ND bytes decl at = Leaf (past Mark.ND at)
-thenAt Mark.BR bytes decl at = Leaf (past Mark.BR at)
+thenAt Mark.BR bytes decl at = One (past Mark.BR at)
 thenAt Mark.other bytes decl at = Leaf (past Mark.other at)
+
+-- the byte where that begins, and how many terms it is
+abbrev pub nextOf : Then → ℕ
+nextOf (Leaf next) = next
+nextOf (One next) = next
+nextOf (Two next) = next
+nextOf (Many next count) = next
+
+abbrev pub opensOf : Then → ℕ
+opensOf (Leaf next) = 0
+opensOf (One next) = 1
+opensOf (Two next) = 2
+opensOf (Many next count) = count
 
 unfoldable pub thenOf : (bytes decl : List ℕ) → ℕ → Then
 thenOf bytes decl at = thenAt (markOf (markAt bytes at)) bytes decl at
@@ -66,7 +79,12 @@ module _ (bytes decl : List ℕ) where
 
     pub data SkipsAll : (at n next : ℕ) → Type 0 where
       none : {at n next : ℕ} → n ≡ 0 → next ≡ at → SkipsAll at n next
-      more : {at n k m next : ℕ} → n ≡ suc k → Skips (at + 3) m → SkipsAll m k next → SkipsAll at n next
+      more : {at n k m next : ℕ} → n ≡ suc k → markOf (markAt bytes at) ≡ Mark.BR → Skips (at + 3) m → SkipsAll m k next → SkipsAll at n next
+
+  -- so many open terms, one after the other; a branch's begins at its BR
+  pub data SkipsMany : (at n next : ℕ) → Type 0 where
+    none : {at n next : ℕ} → n ≡ 0 → next ≡ at → SkipsMany at n next
+    more : {at n k m next : ℕ} → n ≡ suc k → Skips at m → SkipsMany m k next → SkipsMany at n next
 
   -- where the branch of a constructor has its term; 0 where there is none
   pub data Found (con : ℕ) : (at n r : ℕ) → Type 0 where

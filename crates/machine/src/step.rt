@@ -8,7 +8,7 @@ ghost use Rattle.meaning.specs.Machine.{run};
 ghost use Rattle.meaning.specs.InPlace.{begins};
 ghost use Rattle.standing.specs.Bytes.{markAt, arityIn, paramsIn, bodyIn};
 ghost use Rattle.machine.specs.Layout.{top, nuOf, atOf, arOf, gvOf, tlOf, clOf, mkOf, mkStore, conOf, openedOf, firstOf};
-ghost use Rattle.machine.specs.Skips.{Safe, thenOf, Skips, SkipsAll, Found, EndNeeds, Keeps};
+ghost use Rattle.machine.specs.Skips.{Safe, thenOf, nextOf, opensOf, Skips, SkipsAll, SkipsMany, Found, EndNeeds, Keeps};
 ghost use Rattle.machine.specs.Needs.{Room, MkNeeds, CallNeeds, OpenNeeds};
 ghost use Rattle.machine.specs.Represents.{Fit, Begun};
 ghost use Rattle.machine.specs.Steps.{Steps, Opened, Chosen, creditOf, placeOf, answerOf};
@@ -27,6 +27,7 @@ use crate::frame::slot;
 use crate::frame::wide;
 use meaning::AR;
 use meaning::AT;
+use meaning::BR;
 use meaning::CL;
 use meaning::GV;
 use meaning::IF;
@@ -44,6 +45,12 @@ pub enum Then {
     One(usize),
     Two(usize),
     Many(usize, usize),
+}
+
+// How far a term is passed over: the byte reached, and the terms that are open there.
+pub struct Passed {
+    pub at: usize,
+    pub terms: usize,
 }
 
 // A run's answer in numbers.
@@ -249,6 +256,7 @@ fn follows(file: &[u8], decl: &[u32; 128], at: usize) -> Then
         TL => Then::Leaf(past + params(decl, byte(file, at + 2))),
         OP => Then::Many(past, byte(file, at + 3)),
         LK => Then::Many(past, byte(file, at + 3)),
+        BR => Then::One(past),
         NU => Then::One(past),
         AR => Then::One(past),
         IF => Then::Two(past),
@@ -256,33 +264,51 @@ fn follows(file: &[u8], decl: &[u32; 128], at: usize) -> Then
     }
 }
 
-// The byte after the term at a place.
+// The byte where what follows a node begins.
+fn next_of(f: Then) -> usize
+    ensures { λ r. ⌜ r ≡ nextOf f ⌝ }
+{
+    match f {
+        Then::Leaf(next) => next,
+        Then::One(next) => next,
+        Then::Two(next) => next,
+        Then::Many(next, _) => next,
+    }
+}
+
+// How many terms follow a node.
+fn opens(f: Then) -> usize
+    ensures { λ r. ⌜ r ≡ opensOf f ⌝ }
+{
+    match f {
+        Then::Leaf(_) => 0,
+        Then::One(_) => 1,
+        Then::Two(_) => 2,
+        Then::Many(_, count) => count,
+    }
+}
+
+// One record passed over: it closes a term, and opens those that follow it.
+fn pass_record(file: &[u8], decl: &[u32; 128], p: Passed) -> Passed
+    requires { ⌜ (0 < p .terms) × ((next : ℕ) × SkipsMany (now file) (now decl) (p .at) (p .terms) next) ⌝ }
+    ensures { λ r. ⌜ (r .at ≡ nextOf (thenOf (now (file .entry)) (now (decl .entry)) (p .at))) × (r .terms ≡ (p .terms - 1) + opensOf (thenOf (now (file .entry)) (now (decl .entry)) (p .at))) ⌝ }
+{
+    let f = follows(file, decl, p.at);
+    let at = next_of(f);
+    let terms = p.terms - 1 + opens(f);
+    Passed { at, terms }
+}
+
+// The byte after the term at a place: the terms that are open are counted until none is.
 pub(crate) fn skip_term(file: &[u8], decl: &[u32; 128], at: usize) -> usize
     requires { ⌜ ((next : ℕ) × Skips (now file) (now decl) at next) ⌝ }
     ensures { λ r. ⌜ Skips (now (file .entry)) (now (decl .entry)) at r ⌝ }
 {
-    let f = follows(file, decl, at);
-    match f {
-        Then::Leaf(next) => next,
-        Then::One(next) => skip_term(file, decl, next),
-        Then::Two(next) => {
-            let second = skip_term(file, decl, next);
-            skip_term(file, decl, second)
-        }
-        Then::Many(next, count) => skip_branches(file, decl, next, count),
+    let mut p = pass_record(file, decl, Passed { at, terms: 1 });
+    while 0 < p.terms {
+        p = pass_record(file, decl, p);
     }
-}
-
-// The byte after so many branches.
-pub(crate) fn skip_branches(file: &[u8], decl: &[u32; 128], at: usize, left: usize) -> usize
-    requires { ⌜ ((next : ℕ) × SkipsAll (now file) (now decl) at left next) ⌝ }
-    ensures { λ r. ⌜ SkipsAll (now (file .entry)) (now (decl .entry)) at left r ⌝ }
-{
-    if left == 0 {
-        return at;
-    }
-    let next = skip_term(file, decl, at + 3);
-    skip_branches(file, decl, next, left - 1)
+    p.at
 }
 
 // The byte after the term at a place, worked out once a run: a word of the work area keeps the place with it.

@@ -43,24 +43,24 @@ past-TL l a b c d e = omega arith
 
 -- a mark that is none of those that something else follows
 pub leaf-follows : (k : Mark) (bytes decl : List ℕ) (at : ℕ) {n : ℕ} → n ≡ numberOf k → (n ≡ 5 → ⊥) → (n ≡ 6 → ⊥) → (n ≡ 7 → ⊥) → (n ≡ 8 → ⊥) → (n ≡ 9 → ⊥) → (n ≡ 10 → ⊥)
-    → (n ≡ 12 → ⊥) → (n ≡ 13 → ⊥) → (n ≡ 14 → ⊥) → thenAt k bytes decl at ≡ Leaf (past k at)
+    → (n ≡ 11 → ⊥) → (n ≡ 12 → ⊥) → (n ≡ 13 → ⊥) → (n ≡ 14 → ⊥) → thenAt k bytes decl at ≡ Leaf (past k at)
 unfolding numberOf
-leaf-follows Mark.AT bytes decl at e a b c d f g h i j = absurd (a e)
-leaf-follows Mark.MK bytes decl at e a b c d f g h i j = absurd (b e)
-leaf-follows Mark.CL bytes decl at e a b c d f g h i j = absurd (c e)
-leaf-follows Mark.TL bytes decl at e a b c d f g h i j = absurd (d e)
-leaf-follows Mark.OP bytes decl at e a b c d f g h i j = absurd (f e)
-leaf-follows Mark.LK bytes decl at e a b c d f g h i j = absurd (g e)
-leaf-follows Mark.NU bytes decl at e a b c d f g h i j = absurd (h e)
-leaf-follows Mark.AR bytes decl at e a b c d f g h i j = absurd (i e)
-leaf-follows Mark.IF bytes decl at e a b c d f g h i j = absurd (j e)
-leaf-follows Mark.GV bytes decl at e a b c d f g h i j = refl
-leaf-follows Mark.CN bytes decl at e a b c d f g h i j = refl
-leaf-follows Mark.FN bytes decl at e a b c d f g h i j = refl
-leaf-follows Mark.BD bytes decl at e a b c d f g h i j = refl
-leaf-follows Mark.ND bytes decl at e a b c d f g h i j = refl
-leaf-follows Mark.BR bytes decl at e a b c d f g h i j = refl
-leaf-follows Mark.other bytes decl at e a b c d f g h i j = refl
+leaf-follows Mark.AT bytes decl at e a b c d f g r h i j = absurd (a e)
+leaf-follows Mark.MK bytes decl at e a b c d f g r h i j = absurd (b e)
+leaf-follows Mark.CL bytes decl at e a b c d f g r h i j = absurd (c e)
+leaf-follows Mark.TL bytes decl at e a b c d f g r h i j = absurd (d e)
+leaf-follows Mark.OP bytes decl at e a b c d f g r h i j = absurd (f e)
+leaf-follows Mark.LK bytes decl at e a b c d f g r h i j = absurd (g e)
+leaf-follows Mark.NU bytes decl at e a b c d f g r h i j = absurd (h e)
+leaf-follows Mark.AR bytes decl at e a b c d f g r h i j = absurd (i e)
+leaf-follows Mark.IF bytes decl at e a b c d f g r h i j = absurd (j e)
+leaf-follows Mark.GV bytes decl at e a b c d f g r h i j = refl
+leaf-follows Mark.CN bytes decl at e a b c d f g r h i j = refl
+leaf-follows Mark.FN bytes decl at e a b c d f g r h i j = refl
+leaf-follows Mark.BD bytes decl at e a b c d f g r h i j = refl
+leaf-follows Mark.ND bytes decl at e a b c d f g r h i j = refl
+leaf-follows Mark.BR bytes decl at e a b c d f g r h i j = absurd (r e)
+leaf-follows Mark.other bytes decl at e a b c d f g r h i j = refl
 
 -- a mark of no node: nothing is done
 pub no-node : (k : Mark) (bytes decl store : List ℕ) (x : Top) {n : ℕ} → n ≡ numberOf k → (n ≡ 4 → ⊥) → (n ≡ 5 → ⊥) → (n ≡ 6 → ⊥) → (n ≡ 7 → ⊥) → (n ≡ 8 → ⊥) → (n ≡ 9 → ⊥)

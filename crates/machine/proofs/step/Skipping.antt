@@ -27,7 +27,7 @@ module _ (bytes decl : List ℕ) where
 
     pub skips-all-past : {at n next : ℕ} → SkipsAll bytes decl at n next → at ≤ next
     skips-all-past (SkipsAll.none e f) = omega arith
-    skips-all-past (SkipsAll.more e k j) = omega (arith, skips-past k, skips-all-past j)
+    skips-all-past (SkipsAll.more e b k j) = omega (arith, skips-past k, skips-all-past j)
 
   pub skips-safe : {at next : ℕ} → Skips bytes decl at next → Safe bytes at
   skips-safe (Skips.leaf s e l) = s
@@ -74,9 +74,9 @@ module _ (bytes decl : List ℕ) where
 
     pub all-one : {at n a b : ℕ} → SkipsAll bytes decl at n a → SkipsAll bytes decl at n b → a ≡ b
     all-one (SkipsAll.none e f) (SkipsAll.none g h) = f ∙ sym h
-    all-one (SkipsAll.none e f) (SkipsAll.more g j k) = absurd (omega arith)
-    all-one (SkipsAll.more e j k) (SkipsAll.none g h) = absurd (omega arith)
-    all-one {b = b} (SkipsAll.more {k = x} {m = y} e j k) (SkipsAll.more {k = z} {m = w} g u v) =
+    all-one (SkipsAll.none e f) (SkipsAll.more g b j k) = absurd (omega arith)
+    all-one (SkipsAll.more e b j k) (SkipsAll.none g h) = absurd (omega arith)
+    all-one {b = b} (SkipsAll.more {k = x} {m = y} e c j k) (SkipsAll.more {k = z} {m = w} g d u v) =
         let p : z ≡ x = omega arith in
         let q : w ≡ y = sym (skips-one j u) in
         all-one k (subst (λ i. SkipsAll bytes decl y i b) p (subst (λ i. SkipsAll bytes decl i z b) q v))
@@ -136,7 +136,7 @@ module _ (file : File) (bytes decl : List ℕ) (d : Declared file bytes decl) wh
     pub each-skips : {slots at next : ℕ} {extra : Constructor → ℕ} {bs : Branches} → Each file bytes slots extra at bs next → SkipsAll bytes decl at (count bs) next
     each-skips (Each.end e) = SkipsAll.none refl e
     each-skips (Each.BR {second = second} a g b e h l q x y) =
-        SkipsAll.more refl (subst (λ z. Skips bytes decl z second) (q ∙ ap (λ z. z + 3) (sym a)) (stands-skips x)) (each-skips y)
+        SkipsAll.more refl (ap (λ z. markOf (markAt bytes z)) a ∙ ap markOf g) (subst (λ z. Skips bytes decl z second) (q ∙ ap (λ z. z + 3) (sym a)) (stands-skips x)) (each-skips y)
 
   -- what stands ends within the file
   mutual
@@ -197,13 +197,7 @@ module _ (file : File) (bytes decl : List ℕ) (d : Declared file bytes decl) wh
 module _ (bytes decl : List ℕ) where
   pub all-next : {at n next : ℕ} → SkipsAll bytes decl at n next → (n ≡ 0 → ⊥) → (m : ℕ) × Skips bytes decl (at + 3) m × SkipsAll bytes decl m (n - 1) next
   all-next (SkipsAll.none e f) z = absurd (z e)
-  all-next {n = n} {next = next} (SkipsAll.more {k = k} {m = m} e s r) z = let q : k ≡ n - 1 = omega arith in (m, s, subst (λ x. SkipsAll bytes decl m x next) q r)
-
-  pub more-left : {at n m next : ℕ} → (n ≡ 0 → ⊥) → Skips bytes decl (at + 3) m → SkipsAll bytes decl m (n - 1) next → SkipsAll bytes decl at n next
-  more-left {n = n} z s r = let q : n ≡ suc (n - 1) = omega arith in SkipsAll.more q s r
-
-  pub skips-from : {at m k next : ℕ} → Skips bytes decl at m → Skips bytes decl at k → Skips bytes decl m next → Skips bytes decl k next
-  skips-from {next = next} s r n = subst (λ x. Skips bytes decl x next) (skips-one bytes decl s r) n
+  all-next {n = n} {next = next} (SkipsAll.more {k = k} {m = m} e b s r) z = let q : k ≡ n - 1 = omega arith in (m, s, subst (λ x. SkipsAll bytes decl m x next) q r)
 
   pub all-from : {at m k n next : ℕ} → Skips bytes decl at m → Skips bytes decl at k → SkipsAll bytes decl m n next → SkipsAll bytes decl k n next
   all-from {n = n} {next = next} s r x = subst (λ y. SkipsAll bytes decl y n next) (skips-one bytes decl s r) x

@@ -114,8 +114,12 @@ unfolding thenOf past numberOf
 returns-9 c = rw ((mark-is (markAt (c .before .before .before .before .before .args .file .now) (c .before .before .before .before .before .args .at)) (c .before .before .before .mark .ensures) (c .match .keys9)), c .before .before .mark-row .ensures, c .match .keys9)
 
 returns-10 : tie.Need-returns-10
+unfolding thenOf past numberOf
+returns-10 c = rw ((mark-is (markAt (c .before .before .before .before .before .args .file .now) (c .before .before .before .before .before .args .at)) (c .before .before .before .mark .ensures) (c .match .keys10)), c .before .before .mark-row .ensures, c .match .keys10)
+
+returns-11 : tie.Need-returns-11
 unfolding thenOf past findMark
-returns-10 c = rw (c .before .before .mark-row .ensures, c .before .before .before .mark .ensures) (sym (leaf-follows (markOf (markAt (c .before .before .before .before .before .args .file .now) (c .before .before .before .before .before .args .at))) _ _ _ (c .before .before .before .mark .ensures) (c .match .rest .0 .0 .0 .0 .0 .0 .0 .0 .1) (c .match .rest .0 .0 .0 .0 .0 .0 .0 .1) (c .match .rest .0 .0 .0 .0 .0 .0 .1) (c .match .rest .0 .0 .0 .0 .0 .1) (c .match .rest .0 .0 .0 .0 .1) (c .match .rest .0 .0 .0 .1) (c .match .rest .0 .0 .1) (c .match .rest .0 .1) (c .match .rest .1)))
+returns-11 c = rw (c .before .before .mark-row .ensures, c .before .before .before .mark .ensures) (sym (leaf-follows (markOf (markAt (c .before .before .before .before .before .args .file .now) (c .before .before .before .before .before .args .at))) _ _ _ (c .before .before .before .mark .ensures) (c .match .rest .0 .0 .0 .0 .0 .0 .0 .0 .0 .1) (c .match .rest .0 .0 .0 .0 .0 .0 .0 .0 .1) (c .match .rest .0 .0 .0 .0 .0 .0 .0 .1) (c .match .rest .0 .0 .0 .0 .0 .0 .1) (c .match .rest .0 .0 .0 .0 .0 .1) (c .match .rest .0 .0 .0 .0 .1) (c .match .rest .0 .0 .0 .1) (c .match .rest .0 .0 .1) (c .match .rest .0 .1) (c .match .rest .1)))
 
 pub follows-spec : {M : Type 1} → statement M
 follows-spec =
@@ -151,4 +155,5 @@ follows-spec =
     returns-7
     returns-8
     returns-9
-    returns-10)
+    returns-10
+    returns-11)
