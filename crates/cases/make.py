@@ -11,6 +11,7 @@ P10 = bytes.fromhex("464E02020201 4244 475600 4E44")
 P14 = bytes.fromhex("464E0000 4244 434C00 475600 4E44")
 CELLS = [(1, 5, 65537, 0, 0), (1, 7, 0, 0, 0)]
 BAD = "bad input"
+ENOUGH = 100000
 cases = []
 
 
@@ -18,14 +19,14 @@ def check(line, *parts):
     cases.append((0, b"".join(parts), line))
 
 
-def request(file, args=(), cells=(), budget=0, counts=None):
+def request(file, args=(), cells=(), budget=ENOUGH, counts=None):
     words = [w for cell in cells for w in cell]
     counts = counts or (len(file), len(args), len(cells), budget)
     word = lambda n: n.to_bytes(4, "big")
     return b"".join(map(word, counts)) + file + b"".join(map(word, args)) + b"".join(map(word, words))
 
 
-def run(line, file, args=(), cells=(), budget=0, **more):
+def run(line, file, args=(), cells=(), budget=ENOUGH, **more):
     cases.append((1, request(file, args, cells, budget, **more), line))
 
 
@@ -59,7 +60,7 @@ def listed(n):
     return [(1, k % 65536, 65536 + k + 1 if k + 1 < n else 0, 0, 0) for k in range(n)]
 
 
-# P1 to P14.
+# P1 to P14, and P11's start with budget 0.
 P13 = with_byte(REVERSAL[:20] + REVERSAL[26:], 19, 1)
 check("accepted flat 1 1", REVERSAL)
 check("refused 9 at 39", with_byte(REVERSAL, 39, 3))
@@ -79,16 +80,23 @@ check("accepted flat 1 1", P13)
 run("31 0 1 16 1", P13, (0, 0))
 check("accepted stacked 1", P14)
 run("33 0 32 6 32", P14, budget=40)
+run("32 0 0 16 1", REVERSAL, (65536, 0), CELLS, 0)
 run("9 0 0 39 0", with_byte(REVERSAL, 39, 3), (65536, 0), CELLS, 8)
 
-# Budgets: 0 stands for 100,000; one; the steps of the run; more.
+# Budgets: none, after the file's and the start's refusals; one; the steps of the run; more.
 LOOP = file_of([fn(0)], tl(0))
-run("0 65537 8 0 1", REVERSAL, (65536, 0), CELLS, 0)
+run("9 0 0 39 0", with_byte(REVERSAL, 39, 3), (65536, 0), CELLS, 0)
+run("21 0 0 0 0", REVERSAL, (65536,), CELLS, 0)
+run("22 0 0 0 0", REVERSAL, (65538, 0), CELLS, 0)
+run("23 0 0 0 0", REVERSAL, (65536, 65536), CELLS, 0)
+run("32 0 0 16 1", P13, (0, 0), budget=0)
+run("32 0 0 6 1", P14, budget=0)
 run("32 0 1 29 1", REVERSAL, (65536, 0), CELLS, 1)
 run("0 65537 8 0 1", REVERSAL, (65536, 0), CELLS, 2**32 - 1)
 check("accepted flat 1 1", LOOP)
-run("32 0 100000 6 1", LOOP)
+run("32 0 0 6 1", LOOP, budget=0)
 run("32 0 1 6 1", LOOP, budget=1)
+run("32 0 100000 6 1", LOOP, budget=100000)
 run("32 0 100001 6 1", LOOP, budget=100001)
 run("32 0 31 6 32", P14, budget=31)
 run("33 0 32 6 32", P14, budget=32)

@@ -4,7 +4,7 @@ use crate::random::cases::Case;
 use crate::slow::plain::{Value, evaluate, tree_at};
 use crate::slow::tree::{Sort, read};
 use crate::slow::{self, demand, derivation, slots};
-use crate::{Answer, Verdict, budget_of};
+use crate::{Answer, Verdict};
 
 /// What a case leaves behind.
 #[derive(Clone, Debug, PartialEq, Eq)]
@@ -54,7 +54,7 @@ pub fn plain_agrees(case: &Case, outcome: &Outcome) -> Option<bool> {
         return None;
     }
     let rules = read(&case.file).ok()?;
-    let plain = evaluate(&rules, &case.arguments, &case.store, budget_of(case.budget));
+    let plain = evaluate(&rules, &case.arguments, &case.store, case.budget);
     let end = match plain.end {
         Err(stop) => (stop.number, stop.place as u32) == (answer.number, answer.place) && answer.value == 0,
         Ok(value) => {
@@ -72,6 +72,6 @@ pub fn demand_agrees(case: &Case, outcome: &Outcome) -> Option<bool> {
         return None;
     }
     let rules = read(&case.file).ok()?;
-    let end = demand::run(&rules, &case.arguments, &case.store, budget_of(case.budget));
+    let end = demand::run(&rules, &case.arguments, &case.store, case.budget);
     Some(end == Some((outcome.answer, outcome.store.clone())))
 }

@@ -36,8 +36,6 @@ pub const CELL_WORDS: usize = 5;
 pub const CELLS: usize = 1024;
 /// The least words of a work area, all of which a run leaves zero.
 pub const WORK_WORDS: usize = 4096;
-/// The steps that a budget of 0 stands for.
-pub const USUAL_BUDGET: u32 = 100_000;
 /// The tree word of cell 0.
 pub const FIRST_CELL: u32 = 65_536;
 
@@ -85,9 +83,4 @@ impl From<Refusal> for Answer {
     fn from(refusal: Refusal) -> Answer {
         Answer { number: refusal.number.into(), place: refusal.place.into(), ..Answer::default() }
     }
-}
-
-/// The steps that a budget allows.
-pub fn budget_of(budget: u32) -> u32 {
-    if budget == 0 { USUAL_BUDGET } else { budget }
 }

@@ -3,7 +3,7 @@
 use crate::check::decode;
 use crate::program::{Instruction, Node, Program};
 use crate::start::{Cell, start};
-use crate::{Answer, CELL_WORDS, CELLS, FIRST_CELL, FRAMES, Refusal, SLOTS, WORK_WORDS, budget_of};
+use crate::{Answer, CELL_WORDS, CELLS, FIRST_CELL, FRAMES, Refusal, SLOTS, WORK_WORDS};
 
 /// All slots of all frames.
 const ALL_SLOTS: usize = FRAMES * SLOTS;
@@ -26,7 +26,7 @@ pub fn run(file: &[u8], arguments: &[u32], store: &mut [u32], work: &mut [u32], 
     let answer = match start(&declared, modes, arguments, cells, area) {
         Err(number) => Refusal::new(number, 0).into(),
         Ok(()) => match area.first_chunk_mut::<ALL_SLOTS>() {
-            Some(slots) => Machine::new(&program, cells, slots, arguments).run(budget_of(budget)),
+            Some(slots) => Machine::new(&program, cells, slots, arguments).run(budget),
             None => Refusal::new(20, 0).into(),
         },
     };

@@ -106,37 +106,39 @@ fn branches() {
 fn cells() {
     let file = giving_back();
     let done = Answer { number: 0, value: 65_536, steps: 1, place: 0, frames: 1 };
-    assert_eq!(run_with(&file, &[65_536], &mut list(1024), WORK_WORDS, 0), done);
+    assert_eq!(run_with(&file, &[65_536], &mut list(1024), WORK_WORDS, 1), done);
     assert_eq!(run_with(&file, &[65_536], &mut list(1025), WORK_WORDS, 0), refusal(20));
     assert_eq!(run_with(&file, &[65_536], &mut list(3)[..14], WORK_WORDS, 0), refusal(20));
     assert_eq!(run_with(&file, &[65_536], &mut list(3), WORK_WORDS - 1, 0), refusal(20));
     assert_eq!(run_with(&file, &[65_535], &mut list(3), WORK_WORDS + 1, 0), refusal(22));
     assert_eq!(run_with(&file, &[65_539], &mut list(3), WORK_WORDS, 0), refusal(22));
-    assert_eq!(run_with(&file, &[0], &mut [], WORK_WORDS, 0), Answer { value: 0, ..done });
+    assert_eq!(run_with(&file, &[0], &mut [], WORK_WORDS, 1), Answer { value: 0, ..done });
 }
 
 /// Eight arguments are taken, seven and nine are not.
 #[test]
 fn arguments() {
     let file = with_arguments(8);
-    assert_eq!(run_with(&file, &[65_535; 8], &mut [], WORK_WORDS, 0).number, 0);
+    assert_eq!(run_with(&file, &[65_535; 8], &mut [], WORK_WORDS, 1_000).number, 0);
     assert_eq!(run_with(&file, &[65_536; 8], &mut [], WORK_WORDS, 0), refusal(22));
     assert_eq!(run_with(&file, &[65_536; 7], &mut [], WORK_WORDS, 0), refusal(21));
     assert_eq!(run_with(&file, &[65_536; 9], &mut [], WORK_WORDS, 0), refusal(21));
 }
 
-/// The budget is kept to the step, and 0 stands for 100,000.
+/// The budget is kept to the step: with 0 the start is checked and no node begins.
 #[test]
 fn budgets() {
     let steps = 5 * 100 + 2;
     let done = Answer { number: 0, value: 5_050, steps, place: 0, frames: 1 };
-    for budget in [0, steps, steps + 1, u32::MAX] {
+    for budget in [steps, steps + 1, u32::MAX] {
         assert_eq!(run_with(COUNT, &[100, 0], &mut [], WORK_WORDS, budget), done);
     }
     let stopped = |steps, place| Answer { number: 32, value: 0, steps, place, frames: 1 };
     assert_eq!(run_with(COUNT, &[100, 0], &mut [], WORK_WORDS, steps - 1), stopped(steps - 1, 30));
     assert_eq!(run_with(COUNT, &[100, 0], &mut [], WORK_WORDS, 1), stopped(1, 11));
-    assert_eq!(run_with(COUNT, &[65_535, 0], &mut [], WORK_WORDS, 0), stopped(100_000, 8));
+    assert_eq!(run_with(COUNT, &[100, 0], &mut [], WORK_WORDS, 0), stopped(0, 8));
+    assert_eq!(run_with(COUNT, &[65_536, 0], &mut [], WORK_WORDS, 0), refusal(22));
+    assert_eq!(run_with(COUNT, &[65_535, 0], &mut [], WORK_WORDS, 100_000), stopped(100_000, 8));
 }
 
 /// Counts over 4,097, 9 and 1,025 are bad input, as is a length that isn't as said.

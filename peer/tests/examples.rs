@@ -170,7 +170,7 @@ fn red_black() {
     let (mut root, mut store, mut keys) = (0, [5, 0, 0, 0, 0].repeat(200), Vec::new());
     for spare in 65_536..65_736 {
         keys.push(random.below(1_000) as u32);
-        let request = Request { file: file.clone(), arguments: vec![root, keys[keys.len() - 1], spare], store, budget: 0 };
+        let request = Request { file: file.clone(), arguments: vec![root, keys[keys.len() - 1], spare], store, budget: 1_000 };
         let (answer, after) = run_line(&request.write());
         let fields = numbers(&answer);
         assert_eq!(fields[0], 0);

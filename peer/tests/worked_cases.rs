@@ -68,7 +68,7 @@ fn p10() {
     assert_eq!(check(&file), refused(11, 8));
 }
 
-/// P11: a list of two cells reversed, and the same with one step too few.
+/// P11: a list of two cells reversed, the same with one step too few, and with none.
 #[test]
 fn p11() {
     let cells = [[1, 5, 65537, 0, 0], [1, 7, 0, 0, 0]];
@@ -78,6 +78,9 @@ fn p11() {
     let (answer, after) = run_over(&REVERSAL, &[65536, 0], &cells, 7);
     assert_eq!(answer, Answer { number: 32, value: 0, steps: 7, place: 23, frames: 1 });
     assert_eq!(after, [[1, 5, 0, 0, 0], [1, 7, 65536, 0, 0]]);
+    let (answer, after) = run_over(&REVERSAL, &[65536, 0], &cells, 0);
+    assert_eq!(answer, Answer { number: 32, value: 0, steps: 0, place: 16, frames: 1 });
+    assert_eq!(after, cells);
 }
 
 /// P12: one list handed over twice.
@@ -95,7 +98,7 @@ fn p13() {
     let mut file = with(19, 1);
     file.drain(20..26);
     assert_eq!(check(&file), Verdict::Flat { depth: 1, reached: 1 });
-    let (answer, _) = run_over(&file, &[0, 0], &[], 0);
+    let (answer, _) = run_over(&file, &[0, 0], &[], 1);
     assert_eq!(answer, Answer { number: 31, value: 0, steps: 1, place: 16, frames: 1 });
 }
 

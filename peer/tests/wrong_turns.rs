@@ -23,9 +23,9 @@ fn refusal(records: &[&[u8]]) -> Option<(u32, u32)> {
 /// The answer number of a run with these arguments and cells.
 fn number(records: &[&[u8]], arguments: &[u32], cells: &[[u32; 5]]) -> u32 {
     let (file, mut store, mut work) = (records.concat(), cells.concat(), vec![3; WORK_WORDS]);
-    let Answer { number, .. } = run(&file, arguments, &mut store, &mut work, 0);
+    let Answer { number, .. } = run(&file, arguments, &mut store, &mut work, 1_000);
     let mut second = cells.concat();
-    assert_eq!(number, slow::run(&file, arguments, &mut second, &mut work, 0).number);
+    assert_eq!(number, slow::run(&file, arguments, &mut second, &mut work, 1_000).number);
     number
 }
 

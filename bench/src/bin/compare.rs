@@ -22,6 +22,7 @@ struct Histogram {
     verdicts: BTreeMap<String, u64>,
     answers: BTreeMap<u32, u64>,
     steps: u64,
+    not_begun: u64,
     derivations: u64,
 }
 
@@ -122,6 +123,7 @@ impl Histogram {
         *self.verdicts.entry(words.join(" ")).or_default() += 1;
         *self.answers.entry(outcome.answer.number).or_default() += 1;
         self.steps += u64::from(outcome.answer.steps);
+        self.not_begun += u64::from(outcome.answer.number == 32 && outcome.answer.steps == 0);
     }
 
     /// Prints all counts.
@@ -133,5 +135,6 @@ impl Histogram {
         for (number, count) in &self.answers {
             println!("{count:>9} answer {number}");
         }
+        println!("{:>9} of these 32 with no step", self.not_begun);
     }
 }

@@ -15,7 +15,7 @@ use Rattle.meaning.specs.Outcome.{Outcome, ok, refuse}
 use Rattle.meaning.specs.Verdict.{accepted}
 use Rattle.meaning.specs.Machine.{Store, function-of, run}
 use Rattle.meaning.specs.InPlace.{begins}
-use Rattle.meaning.specs.Start.{start, budget-of}
+use Rattle.meaning.specs.Start.{start}
 use Rattle.meaning.specs.Answers.{wiped, ended, runOf}
 use Rattle.theory.proofs.Taking.{refused}
 use Rattle.theory.proofs.Started.{accepted-started}
@@ -108,15 +108,14 @@ module _ {bytes decl args store work : List ℕ} (o : Opened bytes decl args sto
             ap (λ x. getD x i 0) q ∙ ap (λ j. getD (cleared 1088 ends w₁) j 0) (sym e) ∙ cleared-zero 1088 ends w₁ (i - 1088) (omega (arith, o .room, l, ends-fit)) (omega arith));
       }
 
-  pub begin-ran : (budget : ℕ) (w₁ w₂ : List ℕ) {n limit : ℕ} {w w₃ store′ : List ℕ} {r : Ran} {a : Answer} → Meant n → n ≡ 0 → limit ≡ budget-of budget
+  pub begin-ran : (budget : ℕ) (w₁ w₂ : List ℕ) {n : ℕ} {w w₃ store′ : List ℕ} {r : Ran} {a : Answer} → Meant n → n ≡ 0
       → length w₁ ≡ length work → wiped 4096 w₁ ≡ wiped 4096 work → w ≡ cleared 1088 (length bytes / 2 + 1) w₁
-      → ((b : Begun bytes decl args store w) → answerOf r store′ ≡ run (b .file) limit (begins (b .file) args store) 0 1)
+      → ((b : Begun bytes decl args store w) → answerOf r store′ ≡ run (b .file) budget (begins (b .file) args store) 0 1)
       → drop 4096 w₂ ≡ drop 4096 w → w₃ ≡ wiped 4096 w₂ → a ≡ steppedBy r → ended a store′ w₃ ≡ runOf bytes args store work budget
   unfolding begin-begun
-  begin-ran budget w₁ w₂ {limit = limit} {w = w} {w₃ = w₃} {store′ = store′} {r = r} m z l k v q runs d e t =
+  begin-ran budget w₁ w₂ {w = w} {w₃ = w₃} {store′ = store′} {r = r} m z k v q runs d e t =
       let same : w₃ ≡ wiped 4096 work = e ∙ wiped-alike 4096 w₂ w d ∙ ap (wiped 4096) q ∙ wiped-cleared 1088 ends w₁ ends-fit ∙ v in
-      let ran : answerOf r store′ ≡ run (o .file) (budget-of budget) (begins (o .file) args store) 0 1 =
-      runs (begin-begun w₁ m z k q) ∙ (λ i. run (o .file) (l i) (begins (o .file) args store) 0 1) in
+      let ran : answerOf r store′ ≡ run (o .file) budget (begins (o .file) args store) 0 1 = runs (begin-begun w₁ m z k q) in
       (λ i. ended (t i) store′ (same i)) ∙ executed bytes args store work budget (o .file) (o .accepts) (starts m z) (answerOf r store′) ran
 
 -- the sizes, by the test
@@ -179,8 +178,3 @@ module _ (bytes args store work : List ℕ) (budget : ℕ) {j : Judged} (e : j �
   run-opened t s m =
       let f = fitting (length store) (length work) s in
       record { file = t .file; accepts = t .fine; declared = declares t; whole = f .0; few = f .1; room = f .2; many = m }
-
--- a budget that is not 0 is what it says
-pub positive : (n : ℕ) → (n ≡ 0 → ⊥) → n ≡ budget-of n
-positive zero h = absurd (h refl)
-positive (suc n) h = refl

@@ -15,7 +15,6 @@ use meaning::Answer;
 use meaning::End;
 ghost use mathlib.Core.Path.{_≡_};
 ghost use Prim.Native.Nat.{_<_};
-ghost use Rattle.meaning.specs.Start.{budget-of};
 ghost use Rattle.meaning.specs.Answers.{endOf, ended, runOf};
 ghost use Rattle.theory.proofs.Running.{refusal};
 ghost use Rattle.standing.specs.Bytes.{paramsIn};
@@ -74,16 +73,6 @@ fn unfit(store: usize, work: usize) -> bool
     work < 4096
 }
 
-// The steps that a budget allows: 0 stands for 100,000.
-fn limit_of(budget: u32) -> u32
-    ensures { λ r. ⌜ r ≡ budget-of budget ⌝ }
-{
-    if budget == 0 {
-        return 100000;
-    }
-    budget
-}
-
 // How many parameters function 0 has.
 fn parameters(decl: &[u32; 128]) -> usize
     ensures { λ r. ⌜ (r ≡ paramsIn (now (decl .entry)) 0) × (r < 256) ⌝ }
@@ -109,8 +98,7 @@ fn begin(
         return refused(n, 0);
     }
     clear(work, Frame::ENDS, file.len() / 2 + 1);
-    let limit = limit_of(budget);
-    let r = execute(file, decl, args, store, work, limit);
+    let r = execute(file, decl, args, store, work, budget);
     wipe(work);
     stepped(r)
 }

@@ -1,4 +1,4 @@
--- Document 01's proved cases, P1 to P14: one table, one theorem about the definitions over it. Assumes nothing.
+-- Document 01's proved cases, P1 to P14, and P11's start with budget 0 (M-103): one table, one theorem about the definitions over it. Assumes nothing.
 use Prim.Native.Nat.{ℕ, zero, suc, _+_, _*_}
 use mathlib.Core.List.{List, [], _∷_, _++_, map}
 use mathlib.Core.Path.{_≡_, refl}
@@ -93,6 +93,8 @@ cases =
     ∷ gives (run-on one-branch (0 ∷ 0 ∷ []) [] 8) (answers ends.NoBranch 0 1 16 1 [])
     ∷ gives (checked waiting) (verdict (verdicts.Stacked 1))
     ∷ gives (run-on waiting [] [] 40) (answers ends.NoFrame 0 32 6 32 [])
+    -- P11's start with budget 0: no node begins
+    ∷ gives (run-on reversal (65536 ∷ 0 ∷ []) two-cells 0) (answers ends.BudgetSpent 0 0 16 1 two-cells)
     ∷ []
 
 pub all-cases : map (λ c. told-of (c .asked)) cases ≡ map (λ c. c .expected) cases

@@ -1,4 +1,4 @@
--- The runs among document 01's proved cases that start (P11, P13, P14), on plain trees and on the machine. Assumes nothing.
+-- The runs among the proved cases that start (P11, P13, P14, and P11's start with budget 0), on plain trees and on the machine. Assumes nothing.
 use Prim.Native.Nat.{ℕ, zero, suc, _+_, _*_}
 use mathlib.Core.List.{List, [], _∷_, _++_, map}
 use mathlib.Core.Path.{_≡_, refl}
@@ -31,13 +31,14 @@ started =
     ∷ starts reversal (65536 ∷ 0 ∷ []) two-cells 7
     ∷ starts one-branch (0 ∷ 0 ∷ []) [] 8
     ∷ starts waiting [] [] 40
+    ∷ starts reversal (65536 ∷ 0 ∷ []) two-cells 0
     ∷ []
 
 abbrev pub reversed : Value
 reversed = node 1 (more (number 7) (more (node 1 (more (number 5) (more (node 0 empty) empty))) empty))
 
 abbrev pub expected : List (Outcome Run)
-expected = ok (value reversed 8 1) ∷ ok (stop 32 23 7 1) ∷ ok (stop 31 16 1 1) ∷ ok (stop 33 6 32 32) ∷ []
+expected = ok (value reversed 8 1) ∷ ok (stop 32 23 7 1) ∷ ok (stop 31 16 1 1) ∷ ok (stop 33 6 32 32) ∷ ok (stop 32 16 0 1) ∷ []
 
 abbrev pub plain-run : Start → Outcome Run
 plain-run c =

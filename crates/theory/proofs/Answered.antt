@@ -14,7 +14,7 @@ use Rattle.meaning.specs.Syntax.{GV, AT, MK, CL, TL, OP, LK, NU, AR, IF, BR, en
 use Rattle.meaning.specs.Outcome.{Outcome, ok, refuse}
 use Rattle.meaning.specs.Plain.{branch}
 use Rattle.meaning.specs.Machine.{Held, Store, Frame, State, state, Step, next, finished, stuck, step, run, Answer, answers, word, held, constructor-of, function-of}
-use Rattle.meaning.specs.Start.{start, answer-to, budget-of}
+use Rattle.meaning.specs.Start.{start, answer-to}
 use Rattle.meaning.specs.Verdict.{accepted}
 use Rattle.meaning.specs.InPlace.{after, height, greatest, Goes-on, Ended, In-place, value-word, begins, Runs-in-place}
 use Rattle.theory.proofs.Passing.{contradiction}
@@ -107,27 +107,27 @@ module _ (file : File) where
 
 -- the answer is the run's
 module _ (bytes : List ℕ) (file : File) (work : ℕ) (args : List ℕ) (store : Store) (budget : ℕ) (e : accepted bytes ≡ ok file) (s : start file work args store ≡ ok tt) where
-  answer-run : answer-to bytes work args store budget ≡ run file (budget-of budget) (begins file args store) 0 1
+  answer-run : answer-to bytes work args store budget ≡ run file budget (begins file args store) 0 1
   unfolding answer-to
   answer-run = rw (e, s, answer-to)
 
-  pub answer-ended : Ended file (budget-of budget) (begins file args store) 0 1 (answer-to bytes work args store budget)
-  answer-ended = rw answer-run (run-ends file (budget-of budget) (begins file args store) 0 1 (omega arith))
+  pub answer-ended : Ended file budget (begins file args store) 0 1 (answer-to bytes work args store budget)
+  answer-ended = rw answer-run (run-ends file budget (begins file args store) 0 1 (omega arith))
 
-  pub answer-store : answer-to bytes work args store budget .after ≡ after file (budget-of budget) (begins file args store) .store
-  answer-store = rw answer-run (run-store file (budget-of budget) (begins file args store) 0 1)
+  pub answer-store : answer-to bytes work args store budget .after ≡ after file budget (begins file args store) .store
+  answer-store = rw answer-run (run-store file budget (begins file args store) 0 1)
 
-  pub answer-frames : answer-to bytes work args store budget .frames ≡ greatest file (budget-of budget) (begins file args store)
+  pub answer-frames : answer-to bytes work args store budget .frames ≡ greatest file budget (begins file args store)
   answer-frames =
       ap (λ x. x .frames) answer-run
-      ∙ run-frames file (budget-of budget) (begins file args store) 0 1 (omega arith)
-      ∙ omega (arith, greatest-first file (budget-of budget) (begins file args store))
+      ∙ run-frames file budget (begins file args store) 0 1 (omega arith)
+      ∙ omega (arith, greatest-first file budget (begins file args store))
 
   pub answer-few : answer-to bytes work args store budget .frames ≤ 32
-  answer-few = rw answer-frames (few-greatest file (budget-of budget) (begins file args store) (omega arith))
+  answer-few = rw answer-frames (few-greatest file budget (begins file args store) (omega arith))
 
   -- a run that is done: the value's cells, in the store that comes back
-  done-in-place : {a : Answer} (r : Runs-in-place file args store) → Ended file (budget-of budget) (begins file args store) 0 1 a → a .answer ≡ 0
+  done-in-place : {a : Answer} (r : Runs-in-place file args store) → Ended file budget (begins file args store) 0 1 a → a .answer ≡ 0
       → In-place (file .constructors) (r .start) store (a .after) (value-word (function-of file 0 .result) (a .value)) []
   done-in-place r (Ended.budget o) q = absurd (omega arith)
   done-in-place r (Ended.value {v} m l o f) q = r .value m v f

@@ -14,7 +14,7 @@ use Rattle.meaning.specs.Verdict.{accepted}
 use Rattle.meaning.specs.Plain.{Value, value, evaluate}
 use Rattle.meaning.specs.Machine.{Store, Answer, function-of}
 use Rattle.meaning.specs.Decode.{plain, plain-args, mode-of}
-use Rattle.meaning.specs.Start.{In, Reached, chosen, is-owned, start, answer-to, budget-of}
+use Rattle.meaning.specs.Start.{In, Reached, chosen, is-owned, start, answer-to}
 use Rattle.meaning.specs.InPlace.{after, height, In-place, value-word, begins, Runs-in-place}
 use Rattle.meaning.specs.Answers.{said, verdictOf, number, wiped, answered, runOf, Ended}
 use Rattle.theory.proofs.Answered.{answer-ended, answer-store, answer-few}
@@ -73,11 +73,11 @@ demand-1-check bytes = go (read bytes) refl
 -- frames."
 pub record Runs-plainly (file : File) (args : List ℕ) (store : Store) (budget : ℕ) (r : Ended) : Type 0 where
   -- the whole answer: number, value as a tree, steps, place and frames
-  pub same : plainly file r ≡ evaluate file (budget-of budget) (plain-args (file .constructors) store (function-of file 0 .parameters) args)
-  pub gives : (v : Value) (k g : ℕ) → (evaluate file (budget-of budget) (plain-args (file .constructors) store (function-of file 0 .parameters) args) ≡ value v k g)
+  pub same : plainly file r ≡ evaluate file budget (plain-args (file .constructors) store (function-of file 0 .parameters) args)
+  pub gives : (v : Value) (k g : ℕ) → (evaluate file budget (plain-args (file .constructors) store (function-of file 0 .parameters) args) ≡ value v k g)
       ↔ ((number (r .answer .end) ≡ 0) × (plain (file .constructors) (r .store) (mode-of (function-of file 0 .result)) (r .answer .value) ≡ v)
       × (r .answer .steps ≡ k) × (r .answer .frames ≡ g))
-  pub within : (r .answer .steps ≤ budget-of budget) × (r .answer .frames ≤ 32)
+  pub within : (r .answer .steps ≤ budget) × (r .answer .frames ≤ 32)
 
 pub record Judges-and-runs (bytes : List ℕ) : Type 0 where
   pub other-layout : (n p : ℕ) → read bytes ≡ refuse n p → (verdictOf bytes ≡ verdict.Refused n p) × (1 ≤ n) × (n ≤ 6)
@@ -91,7 +91,7 @@ unfolding runOf
 runs-plainly bytes file e args store work budget s =
     let a : Answer = answer-to bytes (length work) args store budget in
     let p = runs-as-plain bytes file (length work) args store budget e s in
-    let x = value-exactly file a (evaluate file (budget-of budget) (plain-args (file .constructors) store (function-of file 0 .parameters) args)) p in
+    let x = value-exactly file a (evaluate file budget (plain-args (file .constructors) store (function-of file 0 .parameters) args)) p in
     let q = number-end (a .answer) in
     record {
       same = plainly-is file a work ∙ p;
@@ -115,7 +115,7 @@ pub record Stays-in-place (bytes : List ℕ) (file : File) (args : List ℕ) (st
   -- "the cells reached from the owned arguments at the start"
   pub begins-with : (c : ℕ) → In c (in-place .start) ↔ Reached (file .constructors) store (chosen is-owned (function-of file 0 .parameters) args) c
   -- each budget leaves the store of the state after so many steps
-  pub leaves : (budget : ℕ) → runOf bytes args store work budget .store ≡ after file (budget-of budget) (begins file args store) .store
+  pub leaves : (budget : ℕ) → runOf bytes args store work budget .store ≡ after file budget (begins file args store) .store
   pub at-end : (budget : ℕ) → number (runOf bytes args store work budget .answer .end) ≡ 0
       → In-place (file .constructors) (in-place .start) store (runOf bytes args store work budget .store)
       (value-word (function-of file 0 .result) (runOf bytes args store work budget .answer .value)) []

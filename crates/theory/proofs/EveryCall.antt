@@ -11,7 +11,7 @@ use Rattle.meaning.specs.Reading.{read}
 use Rattle.meaning.specs.Ownership.{check-file}
 use Rattle.meaning.specs.Verdict.{accepted}
 use Rattle.meaning.specs.Machine.{Store, Answer, answers}
-use Rattle.meaning.specs.Start.{start, answer-to, budget-of}
+use Rattle.meaning.specs.Start.{start, answer-to}
 use Rattle.meaning.specs.InPlace.{begins, Ended}
 use Rattle.theory.proofs.Answered.{answer-ended}
 use Rattle.theory.proofs.CheckRefusals.{read-refuses, check-refuses}
@@ -39,7 +39,7 @@ module _ (bytes : List ℕ) (work : ℕ) (args : List ℕ) (store : Store) (budg
   pub data Call : Answer → Type 0 where
     refused-file : {n p : ℕ} → accepted bytes ≡ refuse n p → 1 ≤ n → n ≤ 12 → Call (answers n 0 0 p 0 store)
     refused-start : {n : ℕ} (file : File) → accepted bytes ≡ ok file → start file work args store ≡ refuse n 0 → 20 ≤ n → n ≤ 24 → Call (answers n 0 0 0 0 store)
-    runs : {a : Answer} (file : File) → accepted bytes ≡ ok file → start file work args store ≡ ok tt → Ended file (budget-of budget) (begins file args store) 0 1 a → Call a
+    runs : {a : Answer} (file : File) → accepted bytes ≡ ok file → start file work args store ≡ ok tt → Ended file budget (begins file args store) 0 1 a → Call a
 
   file-answer : (n p : ℕ) → accepted bytes ≡ refuse n p → answer-to bytes work args store budget ≡ answers n 0 0 p 0 store
   unfolding answer-to

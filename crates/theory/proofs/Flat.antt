@@ -10,7 +10,7 @@ use Rattle.meaning.specs.Outcome.{Outcome, ok, refuse, _>>=_}
 use Rattle.meaning.specs.Calls.{square, Flat, IsDepth, IsReached, Shape, flat, stacked, shape}
 use Rattle.meaning.specs.Verdict.{accepted, verdict}
 use Rattle.meaning.specs.Machine.{Held, Store, State, Answer, answers, run, body-of, function-of}
-use Rattle.meaning.specs.Start.{start, begin, budget-of, answer-to}
+use Rattle.meaning.specs.Start.{start, begin, answer-to}
 use Rattle.theory.proofs.Taking.{steps-ok, refused}
 use Rattle.theory.proofs.Wellread.{accepted-read}
 use Rattle.theory.proofs.Filling.{Callable}
@@ -49,17 +49,17 @@ flat-answer bytes file D R a e work args store budget s = go (accepted bytes) a
     ready : (o : Outcome (Unit {0})) → o ≡ ok tt
         → Shallow D (elim o as (λ _. Answer) [
           | refuse a p ↦ answers a 0 0 p 0 store
-          | ok _ ↦ run file (budget-of budget) (first-state file store (begin (function-of file 0 .parameters) args)) 0 1
+          | ok _ ↦ run file budget (first-state file store (begin (function-of file 0 .parameters) args)) 0 1
         ])
     ready (refuse n p) q = absurd (refused q)
-    ready (ok u) q = flat-run bytes file D R a e store (begin (function-of file 0 .parameters) args) (budget-of budget)
+    ready (ok u) q = flat-run bytes file D R a e store (begin (function-of file 0 .parameters) args) budget
 
     go : (o : Outcome File) → o ≡ ok file
         → Shallow D (elim o as (λ _. Answer) [
           | refuse a p ↦ answers a 0 0 p 0 store
           | ok file ↦ elim (start file work args store) as (λ _. Answer) [
             | refuse a p ↦ answers a 0 0 p 0 store
-            | ok _ ↦ run file (budget-of budget) (first-state file store (begin (function-of file 0 .parameters) args)) 0 1
+            | ok _ ↦ run file budget (first-state file store (begin (function-of file 0 .parameters) args)) 0 1
           ]
         ])
     go (refuse n p) q = absurd (refused q)
@@ -67,7 +67,7 @@ flat-answer bytes file D R a e work args store budget s = go (accepted bytes) a
         let f : file ≡ x = cc in
         subst (λ file. Shallow D (elim (start file work args store) as (λ _. Answer) [
           | refuse a p ↦ answers a 0 0 p 0 store
-          | ok _ ↦ run file (budget-of budget) (first-state file store (begin (function-of file 0 .parameters) args)) 0 1
+          | ok _ ↦ run file budget (first-state file store (begin (function-of file 0 .parameters) args)) 0 1
         ])) f (ready (start file work args store) s)
 
 -- the same from the verdict: a run that is begun at all has at most D frames and never ends in 33

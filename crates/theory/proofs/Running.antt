@@ -15,7 +15,7 @@ use Rattle.meaning.specs.Verdict.{accepted}
 use Rattle.meaning.specs.Machine.{Store, run, answers}
 use Rattle.meaning.specs.Machine as M
 use Rattle.meaning.specs.InPlace.{begins}
-use Rattle.meaning.specs.Start.{start, answer-to, budget-of}
+use Rattle.meaning.specs.Start.{start, answer-to}
 use Rattle.meaning.specs.Answers.{endOf, wiped, left-in, Ended, ended, answered, runOf}
 use Rattle.theory.proofs.Ends.{left-kept, left-wiped}
 use Rattle.theory.proofs.SoundAnswers.{Refusal, ran}
@@ -51,7 +51,7 @@ module _ (bytes args : List ℕ) (store : Store) (work : List ℕ) (budget : ℕ
   start-answer file n p e s = rw (e, s, answer-to)
 
   run-answer : (file : File) → accepted bytes ≡ ok file → start file (length work) args store ≡ ok tt
-      → answer-to bytes (length work) args store budget ≡ run file (budget-of budget) (begins file args store) 0 1
+      → answer-to bytes (length work) args store budget ≡ run file budget (begins file args store) 0 1
   unfolding answer-to
   run-answer file e s = rw (e, s, answer-to)
 
@@ -72,7 +72,7 @@ module _ (bytes args : List ℕ) (store : Store) (work : List ℕ) (budget : ℕ
   refused-start file n l m e s = told n 0 (wiped 4096 work) (omega arith) m (left-wiped n work (inr l)) (start-answer file n 0 e s)
 
   -- 0 and 31 to 33
-  pub executed : (file : File) → accepted bytes ≡ ok file → start file (length work) args store ≡ ok tt → (a : M.Answer) → a ≡ run file (budget-of budget) (begins file args store) 0 1
+  pub executed : (file : File) → accepted bytes ≡ ok file → start file (length work) args store ≡ ok tt → (a : M.Answer) → a ≡ run file budget (begins file args store) 0 1
       → ended (stepped a) (a .after) (wiped 4096 work) ≡ runOf bytes args store work budget
   unfolding runOf
   executed file e s a q =

@@ -16,7 +16,7 @@ use Rattle.meaning.specs.Plain.{Value, Values, number, node, credit, Run, value
 use Rattle.meaning.specs.Plain as P
 use Rattle.meaning.specs.Machine.{Store, Answer, answers, run, function-of}
 use Rattle.meaning.specs.Decode.{plain-args, as-plain}
-use Rattle.meaning.specs.Start.{Reached, chosen, is-owned, start, answer-to, budget-of}
+use Rattle.meaning.specs.Start.{Reached, chosen, is-owned, start, answer-to}
 use Rattle.meaning.specs.Verdict.{accepted}
 use Rattle.meaning.specs.InPlace.{begins}
 use Rattle.theory.proofs.Wellread.{accepted-well}
@@ -87,7 +87,7 @@ module _ (file : File) (budget : ℕ) where
 
 -- the answer is the run's
 module _ (bytes : List ℕ) (file : File) (work : ℕ) (args : List ℕ) (store : Store) (budget : ℕ) (e : accepted bytes ≡ ok file) (s : start file work args store ≡ ok tt) where
-  is-run : answer-to bytes work args store budget ≡ run file (budget-of budget) (begins file args store) 0 1
+  is-run : answer-to bytes work args store budget ≡ run file budget (begins file args store) 0 1
   unfolding answer-to
   is-run = rw (e, s, answer-to)
 
@@ -97,11 +97,8 @@ module _ (bytes : List ℕ) (file : File) (work : ℕ) (args : List ℕ) (store 
   abbrev env : List Value
   env = plain-args cs store (function-of file 0 .parameters) args
 
-  abbrev b : ℕ
-  b = budget-of budget
-
   -- one answer that ends as an evaluation does
-  told : (t : Started file args store) (a : Answer) (r : Run) → Stops-so r → Ends file b (function-of file 0 .result) (t .owns) store [] 1 0 a r → as-plain file a ≡ r
+  told : (t : Started file args store) (a : Answer) (r : Run) → Stops-so r → Ends file budget (function-of file 0 .result) (t .owns) store [] 1 0 a r → as-plain file a ≡ r
   told t a (value v k g) o (Ends.value l store′ h q i d y n holds x) =
       ap (as-plain file) x
       ∙ ap (λ z. value z k g) (value-read cs store′ (function-of file 0 .result) holds (t .once)
@@ -117,10 +114,10 @@ module _ (bytes : List ℕ) (file : File) (work : ℕ) (args : List ℕ) (store 
       stopped zero p k g store′ (inr (inr e)) = absurd (omega arith)
       stopped (suc n) p k g store′ o = refl
 
-  pub runs-as-plain : as-plain file (answer-to bytes work args store budget) ≡ evaluate file (budget-of budget) env
+  pub runs-as-plain : as-plain file (answer-to bytes work args store budget) ≡ evaluate file budget env
   runs-as-plain =
-      let fine = accepted-well b bytes file e in
+      let fine = accepted-well budget bytes file e in
       let t = accepted-started bytes file e work args store s in
       ap (as-plain file) is-run
-      ∙ told t (run file b (begins file args store) 0 1) (evaluate file b env) (evaluate-so file b env)
-      (runs-as-evaluated file b fine (record { checked = fine .bodies-checked 0; formed = fine .bodies-formed 0; match = t .match; once = t .once; apart = t .apart }))
+      ∙ told t (run file budget (begins file args store) 0 1) (evaluate file budget env) (evaluate-so file budget env)
+      (runs-as-evaluated file budget fine (record { checked = fine .bodies-checked 0; formed = fine .bodies-formed 0; match = t .match; once = t .once; apart = t .apart }))

@@ -8,7 +8,7 @@ use lib.ListN.{length}
 use Rattle.meaning.specs.Syntax.{File}
 use Rattle.meaning.specs.Outcome.{ok, refuse}
 use Rattle.meaning.specs.Machine.{Store, Answer}
-use Rattle.meaning.specs.Start.{start, answer-to, budget-of}
+use Rattle.meaning.specs.Start.{start, answer-to}
 use Rattle.meaning.specs.Verdict.{accepted}
 use Rattle.meaning.specs.InPlace.{after, begins, Ended}
 use Rattle.theory.proofs.Answered.{stuck-so, answer-ended}
@@ -45,7 +45,7 @@ module _ (bytes args : List ℕ) (store : Store) (work : List ℕ) (budget : ℕ
       (same? n 23))
       (same? n 22)
 
-  ended-sound : (file : File) {a : Answer} → start file (length work) args store ≡ ok tt → Ended file (budget-of budget) (begins file args store) 0 1 a → Sound-answer a
+  ended-sound : (file : File) {a : Answer} → start file (length work) args store ≡ ok tt → Ended file budget (begins file args store) 0 1 a → Sound-answer a
   ended-sound file s (Ended.budget o) =
       record {
         tabled = inr (inr (omega arith, omega arith));
@@ -103,7 +103,7 @@ module _ (bytes args : List ℕ) (store : Store) (work : List ℕ) (budget : ℕ
   begun (Call.refused-start file e s l m) n = absurd (n (omega arith, m))
   begun (Call.runs file e s d) n = (file, e, s)
 
-  ended-unrefused : {file : File} {a : Answer} → Ended file (budget-of budget) (begins file args store) 0 1 a → Refusal (a .answer) → ⊥
+  ended-unrefused : {file : File} {a : Answer} → Ended file budget (begins file args store) 0 1 a → Refusal (a .answer) → ⊥
   ended-unrefused (Ended.budget o) r = omega (arith, r .1)
   ended-unrefused (Ended.value m l o f) r = omega (arith, r .0)
   ended-unrefused {file} (Ended.stop {a = n} {p} m l o f) r =

@@ -1,5 +1,5 @@
 -- The seven theorems about the definitions, each with its sentence. The demands stand in Demands. Assumes nothing.
-use Prim.Native.Nat.{ℕ, suc, _≤_}
+use Prim.Native.Nat.{ℕ, _≤_}
 use mathlib.Core.List.{List}
 use mathlib.Core.Path.{_≡_}
 use mathlib.Core.Logic.{_↔_}
@@ -10,7 +10,7 @@ use Rattle.meaning.specs.Verdict.{accepted}
 use Rattle.meaning.specs.Plain.{evaluate}
 use Rattle.meaning.specs.Machine.{Store, function-of}
 use Rattle.meaning.specs.Decode.{as-plain, plain-args}
-use Rattle.meaning.specs.Start.{Malformed, Shared, Looped, start, answer-to, budget-of}
+use Rattle.meaning.specs.Start.{Malformed, Shared, Looped, start, answer-to}
 use Rattle.meaning.specs.InPlace.{after, begins, height, Ended, Runs-in-place}
 use Rattle.theory.proofs.Shapes.{shape-flat, shape-stacked, shape-bounds}
 use Rattle.theory.proofs.Flat.{flat-answer}
@@ -73,7 +73,7 @@ module _ (bytes : List ℕ) (file : File) (work : ℕ) (args : List ℕ) (store 
   -- 4. For an accepted file, a start that was not refused and every budget, the run's answer number, value read as a tree, steps, place and greatest
   -- frames are those of the plain-tree evaluation on the arguments read as trees.
   pub runs-as-plain : (budget : ℕ) → as-plain file (answer-to bytes work args store budget)
-      ≡ evaluate file (budget-of budget) (plain-args (file .constructors) store (function-of file 0 .parameters) args)
+      ≡ evaluate file budget (plain-args (file .constructors) store (function-of file 0 .parameters) args)
   runs-as-plain budget = plain.runs-as-plain bytes file work args store budget a s
 
   -- 5. After every step of the defined states, the cells reached from the owned slots of all frames together with those held as credits are exactly
@@ -88,6 +88,6 @@ module _ (bytes : List ℕ) (file : File) (work : ℕ) (args : List ℕ) (store 
   never-deeper D R f = (gives.never-deeper bytes file D R a f work args store s, λ budget. flat-answer bytes file D R a f work args store budget s .1)
 
   -- 7. A run with a smaller budget ends in the store of the defined state after so many steps; steps and frames in the answer are those of the states.
-  pub each-budget : (budget : ℕ) → (answer-to bytes work args store (suc budget) .after ≡ after file (suc budget) (begins file args store) .store)
-      × Ended file (budget-of budget) (begins file args store) 0 1 (answer-to bytes work args store budget)
+  pub each-budget : (budget : ℕ) → (answer-to bytes work args store budget .after ≡ after file budget (begins file args store) .store)
+      × Ended file budget (begins file args store) 0 1 (answer-to bytes work args store budget)
   each-budget budget = (run.each-budget bytes file a work args store s budget, answer-ended bytes file work args store budget a s)

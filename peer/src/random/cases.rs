@@ -84,14 +84,14 @@ fn work(random: &mut Random) -> Vec<u32> {
     vec![word; length]
 }
 
-/// A random budget: small, larger, as exact as the run needs it, one less, or 0.
+/// A random budget: small, larger, as exact as the run needs it, one less, none, or the greatest.
 fn budget(random: &mut Random, case: &Case) -> u32 {
     let steps = || answer(&Case { budget: GREATEST_BUDGET as u32, ..case.clone() }).steps;
     match random.below(20) {
         0..4 => 1 + random.below(12) as u32,
         4..7 => steps().max(1),
-        7..10 => steps().max(2) - 1,
-        10 if steps() < GREATEST_BUDGET as u32 || random.percent(5) => 0,
+        7..10 => steps().saturating_sub(1),
+        10 => 0,
         11 if steps() < GREATEST_BUDGET as u32 => u32::MAX,
         _ => 1 + random.below(GREATEST_BUDGET) as u32,
     }

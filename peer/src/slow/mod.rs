@@ -9,7 +9,7 @@ pub mod store;
 pub mod tree;
 pub mod walks;
 
-use crate::{Answer, CELL_WORDS, CELLS, Refusal, Verdict, WORK_WORDS, budget_of};
+use crate::{Answer, CELL_WORDS, CELLS, Refusal, Verdict, WORK_WORDS};
 use tree::Rules;
 
 /// Reads a file and tests its ownership.
@@ -50,7 +50,7 @@ pub fn run(file: &[u8], arguments: &[u32], store: &mut [u32], work: &mut [u32], 
             refusal.into()
         }
         Ok(rules) => {
-            let mut machine = store::Machine::new(&rules, arguments, store, budget_of(budget));
+            let mut machine = store::Machine::new(&rules, arguments, store, budget);
             let answer = loop {
                 if let Some(answer) = machine.step() {
                     break answer;

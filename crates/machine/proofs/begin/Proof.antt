@@ -4,7 +4,6 @@ use Rattle.machine.proofs.begin.Statement.{statement}
 use Rattle.machine.proofs.begin.Tie as tie
 use Rattle.machine.proofs.begin.Reads as reads
 use Rattle.machine.proofs.begin.Lts as lts
-use Rattle.machine.proofs.limit_of.Reads as limit-of-reads
 use Rattle.machine.proofs.refused.Reads as refused-reads
 use Rattle.machine.proofs.start.clear.Reads as clear-reads
 use Rattle.machine.proofs.start.start_answer.Reads as start-answer-reads
@@ -37,11 +36,8 @@ add-clear c = search needs
 clear-requires : tie.Need-clear-requires
 clear-requires c κs = search needs
 
-limit-of-requires : tie.Need-limit-of-requires
-limit-of-requires c κs = search needs
-
 execute-requires : tie.Need-execute-requires
-execute-requires c κs = begin-begun (c .before .before .before .before .before .before .before .before .before .before .before .before .before .before .before .before .before .pre) _ (c .before .before .before .before .before .before .before .before .before .before .start-answer .ensures .0) (c .before .before .before .before .before .before .before .if1 .left) (c .before .before .before .before .before .before .before .before .before .before .start-answer .kept .1 .1 .1 .1 .0) (c .before .before .before .before .before .clear .ensures)
+execute-requires c κs = begin-begun (c .before .before .before .before .before .before .before .before .before .before .before .before .before .before .before .before .pre) _ (c .before .before .before .before .before .before .before .before .before .start-answer .ensures .0) (c .before .before .before .before .before .before .if1 .left) (c .before .before .before .before .before .before .before .before .before .start-answer .kept .1 .1 .1 .1 .0) (c .before .before .before .before .clear .ensures)
 
 wipe-requires-2 : tie.Need-wipe-requires-2
 wipe-requires-2 c κs = search needs
@@ -56,7 +52,7 @@ same-length-4 : tie.Need-same-length-4
 same-length-4 c = search needs
 
 returns-2 : tie.Need-returns-2
-returns-2 c = begin-ran (c .before .before .before .before .before .before .before .before .before .before .before .before .before .before .before .before .before .before .before .before .before .before .before .before .before .before .before .pre) _ _ _ (c .before .before .before .before .before .before .before .before .before .before .before .before .before .before .before .before .before .before .before .before .start-answer .ensures .0) (c .before .before .before .before .before .before .before .before .before .before .before .before .before .before .before .before .before .if1 .left) (c .before .before .before .before .before .before .before .before .before .before .before .before .limit-of .ensures) (c .before .before .before .before .before .before .before .before .before .before .before .before .before .before .before .before .before .before .before .before .start-answer .kept .1 .1 .1 .1 .0) (c .before .before .before .before .before .before .before .before .before .before .before .before .before .before .before .before .before .before .before .before .start-answer .ensures .1) (c .before .before .before .before .before .before .before .before .before .before .before .before .before .before .before .clear .ensures) (c .before .before .before .before .before .before .before .before .before .execute .ensures .0) (c .before .before .before .before .before .before .before .before .before .execute .ensures .1) (c .before .before .before .wipe2 .ensures) (c .stepped .ensures)
+returns-2 c = begin-ran (c .before .before .before .before .before .before .before .before .before .before .before .before .before .before .before .before .before .before .before .before .before .before .before .before .before .before .pre) _ _ _ (c .before .before .before .before .before .before .before .before .before .before .before .before .before .before .before .before .before .before .before .start-answer .ensures .0) (c .before .before .before .before .before .before .before .before .before .before .before .before .before .before .before .before .if1 .left) (c .before .before .before .before .before .before .before .before .before .before .before .before .before .before .before .before .before .before .before .start-answer .kept .1 .1 .1 .1 .0) (c .before .before .before .before .before .before .before .before .before .before .before .before .before .before .before .before .before .before .before .start-answer .ensures .1) (c .before .before .before .before .before .before .before .before .before .before .before .before .before .before .clear .ensures) (c .before .before .before .before .before .before .before .before .before .execute .ensures .0) (c .before .before .before .before .before .before .before .before .before .execute .ensures .1) (c .before .before .before .wipe2 .ensures) (c .stepped .ensures)
 
 pub begin-spec : {M : Type 1} → statement M
 begin-spec =
@@ -70,7 +66,6 @@ begin-spec =
     returns
     add-clear
     clear-requires
-    limit-of-requires
     execute-requires
     wipe-requires-2
     stepped-requires
