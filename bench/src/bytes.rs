@@ -101,12 +101,16 @@ impl<'a> Bytes<'a> {
                 }
                 [b'A', b'R'] => {
                     let (left, right) = (slots[slot(3)], slots[slot(4)]);
-                    slots[bind] = match file[at + 2] {
-                        0 => left.wrapping_add(right) & 0xFFFF,
-                        1 => left.wrapping_sub(right) & 0xFFFF,
+                    let result = match file[at + 2] {
+                        0 => left.wrapping_add(right),
+                        1 => left.wrapping_sub(right),
                         2 => (left < right).into(),
                         _ => (left == right).into(),
                     };
+                    if result > 0xFFFF {
+                        break (34, 0);
+                    }
+                    slots[bind] = result;
                     (at, bound) = (at + 5, bound + 1);
                 }
                 [b'I', b'F'] => {

@@ -14,8 +14,8 @@ const FIRST_CELL: u32 = 65_536;
 pub const REVERSAL: &[u8] =
     b"CN\x00CN\x02\x00\x01FN\x02\x02\x02\x01BDOP\x00\x02BR\x00GV\x01BR\x01MK\x01\x04\x02\x01TL\x00\x03\x05ND";
 
-/// A file that counts its first argument down and adds up what it passes.
-const COUNT: &[u8] = b"FN\x02\x00\x00\x00BDIF\x00NU\x00\x01AR\x01\x00\x02AR\x00\x01\x00TL\x00\x03\x04GV\x01ND";
+/// A file that counts its first argument down and its second up.
+const COUNT: &[u8] = b"FN\x02\x00\x00\x00BDIF\x00NU\x00\x01AR\x01\x00\x02AR\x00\x01\x02TL\x00\x03\x04GV\x01ND";
 
 /// A file that calls itself twice for each number from 2 on.
 const FIBONACCI: &[u8] = b"FN\x01\x00\x00BDNU\x00\x02AR\x02\x00\x01IF\x02GV\x00\
@@ -136,7 +136,7 @@ fn arithmetic() -> Workload {
     let native = || {
         let (mut left, mut total) = (black_box(5_000u32), 0u32);
         while left != 0 {
-            total = black_box((total + left) & 0xFFFF);
+            total = black_box((total + 1) & 0xFFFF);
             left -= 1;
         }
         total

@@ -199,13 +199,28 @@ run("0 65537 1 0 1", SHARED, (0, 65537), CELLS)
 run("23 0 0 0 0", SHARED, (65536, 65537), CELLS)
 check("accepted flat 1 1", file_of([cn(), cn(0), fn(1, 2, 2)], op(0, br(0, gv(1)), br(1, mk(1, 3, 2), op(1, br(0, gv(4)))))))
 
-# A mark not allowed, and arithmetic that wraps.
+# A mark not allowed, and arithmetic.
 check("refused 3 at 0", b"XX")
 check("refused 3 at 0", b"ND")
-run("0 65534 4 0 1", file_of([fn(0)], nu(1) + nu(3) + ar(1, 0, 1) + gv(2)))
-run("0 1 4 0 1", file_of([fn(0)], nu(65535) + nu(2) + ar(0, 0, 1) + gv(2)))
+run("34 0 3 14 1", file_of([fn(0)], nu(1) + nu(3) + ar(1, 0, 1) + gv(2)))
+run("34 0 3 14 1", file_of([fn(0)], nu(65535) + nu(2) + ar(0, 0, 1) + gv(2)))
 run("0 1 4 0 1", file_of([fn(0)], nu(3) + nu(4) + ar(2, 0, 1) + gv(2)))
 run("0 0 4 0 1", file_of([fn(0)], nu(3) + nu(4) + ar(3, 0, 1) + gv(2)))
+
+# The ends of the range: a sum over 65,535 and a difference below 0 end the run, and so in a called function.
+def operating(operation): return file_of([fn(0, 0, 0)], ar(operation, 0, 1) + gv(2))
+run("0 65535 2 0 1", operating(0), (65535, 0), budget=8)
+run("34 0 1 8 1", operating(0), (65535, 1), budget=8)
+run("0 0 2 0 1", operating(1), (0, 0), budget=8)
+run("34 0 1 8 1", operating(1), (0, 1), budget=8)
+run("0 0 2 0 1", operating(1), (5, 5), budget=8)
+run("34 0 1 8 1", operating(1), (0, 65535), budget=8)
+run("34 0 1 8 1", operating(0), (65535, 65535), budget=8)
+run("0 1 2 0 1", operating(2), (0, 65535), budget=8)
+run("0 1 2 0 1", operating(3), (65535, 65535), budget=8)
+run("32 0 1 13 1", operating(0), (65535, 0), budget=1)
+run("34 0 1 8 1", operating(0), (65535, 1), budget=1)
+run("34 0 2 24 2", file_of([fn(0, 0, 0), fn(0, 0, 0)], cl(1, 0, 1) + gv(2), ar(1, 0, 1) + gv(2)), (0, 1), budget=8)
 
 def example(path):
     """The verdict and the runs of an example, from the file with its starts and the one with its bytes."""

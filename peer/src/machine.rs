@@ -58,6 +58,7 @@ enum End {
     Done(u32),
     NoBranch,
     NoFrame,
+    OutOfRange,
 }
 
 impl<'a> Machine<'a> {
@@ -83,6 +84,7 @@ impl<'a> Machine<'a> {
                 End::Done(value) => break (0, value, 0),
                 End::NoBranch => break (31, 0, *place),
                 End::NoFrame => break (33, 0, *place),
+                End::OutOfRange => break (34, 0, *place),
             }
         };
         let frames = (self.greatest / SLOTS + 1) as u32;
@@ -105,7 +107,11 @@ impl<'a> Machine<'a> {
             Instruction::Look { slot } => return self.list(*slot, false),
             Instruction::Number { constant, bind } => self.set(*bind, (*constant).into()),
             Instruction::Arithmetic { operation, left, right, bind } => {
-                self.set(*bind, arithmetic(*operation, self.get(*left), self.get(*right)));
+                let result = arithmetic(*operation, self.get(*left), self.get(*right));
+                if result > 0xFFFF {
+                    return End::OutOfRange;
+                }
+                self.set(*bind, result);
             }
             Instruction::If { slot, second } => {
                 if self.get(*slot) == 0 {
@@ -217,12 +223,12 @@ impl<'a> Machine<'a> {
     }
 }
 
-/// The result of an AR.
+/// The result of an AR; over 65,535 if a sum or a difference is no number.
 #[inline(always)]
 fn arithmetic(operation: u8, left: u32, right: u32) -> u32 {
     match operation {
-        0 => left.wrapping_add(right) & 0xFFFF,
-        1 => left.wrapping_sub(right) & 0xFFFF,
+        0 => left + right,
+        1 => left.wrapping_sub(right),
         2 => u32::from(left < right),
         _ => u32::from(left == right),
     }

@@ -138,7 +138,7 @@ fn budgets() {
     assert_eq!(run_with(COUNT, &[100, 0], &mut [], WORK_WORDS, 1), stopped(1, 11));
     assert_eq!(run_with(COUNT, &[100, 0], &mut [], WORK_WORDS, 0), stopped(0, 8));
     assert_eq!(run_with(COUNT, &[65_536, 0], &mut [], WORK_WORDS, 0), refusal(22));
-    assert_eq!(run_with(COUNT, &[65_535, 0], &mut [], WORK_WORDS, 100_000), stopped(100_000, 8));
+    assert_eq!(run_with(b"FN\x00\x00BDTL\x00ND", &[], &mut [], WORK_WORDS, 100_000), stopped(100_000, 6));
 }
 
 /// Counts over 4,097, 9 and 1,025 are bad input, as is a length that isn't as said.

@@ -110,3 +110,22 @@ fn p14() {
     let (answer, _) = run_over(&file, &[], &[], 40);
     assert_eq!(answer, Answer { number: 33, value: 0, steps: 32, place: 6, frames: 32 });
 }
+
+/// A sum and a difference at the ends of the range of numbers.
+#[test]
+fn ends_of_the_range() {
+    let done = |value| Answer { number: 0, value, steps: 2, place: 0, frames: 1 };
+    let ended = Answer { number: 34, value: 0, steps: 1, place: 8, frames: 1 };
+    for (operation, arguments, expected) in [
+        (0, [65535, 0], done(65535)),
+        (0, [65535, 1], ended),
+        (1, [0, 0], done(0)),
+        (1, [5, 5], done(0)),
+        (1, [0, 1], ended),
+        (2, [0, 65535], done(1)),
+        (3, [65535, 65535], done(1)),
+    ] {
+        let file = [0x46, 0x4E, 2, 0, 0, 0, 0x42, 0x44, 0x41, 0x52, operation, 0, 1, 0x47, 0x56, 2, 0x4E, 0x44];
+        assert_eq!(run_over(&file, &arguments, &[], 8).0, expected, "operation {operation} on {arguments:?}");
+    }
+}

@@ -28,6 +28,7 @@ fn number(end: End) -> u32
         End::NoBranch => 31,
         End::BudgetSpent => 32,
         End::NoFrame => 33,
+        End::OutOfRange => 34,
     }
 }
 

@@ -3,6 +3,7 @@
 use Prim.Native.Nat.{ℕ, zero, suc, _+_, _*_, _-_, _≤_, _<_, max}
 use mathlib.Core.List.{List, [], _∷_}
 use mathlib.Core.Logic.{_⊎_}
+use mathlib.Core.Option.{none, some}
 use lib.ListN.{length, getD, set}
 use lib.Dec.{ltb, leb, eqb}
 use Rattle.machine.specs.declared.frame.State.{State}
@@ -70,11 +71,14 @@ nuOf bytes c = bound c (byteAt bytes (c .state .frame .at + 2) * 256 + byteAt by
 unfoldable pub atOf : List ℕ → Top → Top
 atOf bytes c = bound c (byteAt bytes (c .state .frame .at + 2)) (c .state .frame .at + 3)
 
+-- AR: the result bound, or the end
 unfoldable pub arOf : List ℕ → Top → Top
 arOf bytes c =
     let base = c .state .frame .depth * 32 in
-    bound c (arithmetic (byteAt bytes (c .state .frame .at + 2)) (slotIn bytes (c .work) base (c .state .frame .at + 3)) (slotIn bytes (c .work) base (c .state .frame .at + 4)))
-    (c .state .frame .at + 5)
+    elim (arithmetic (byteAt bytes (c .state .frame .at + 2)) (slotIn bytes (c .work) base (c .state .frame .at + 3)) (slotIn bytes (c .work) base (c .state .frame .at + 4))) [
+      | none ↦ top (ended (c .state) 34 0) (c .work)
+      | some v ↦ bound c v (c .state .frame .at + 5)
+    ]
 
 -- GV: back to the frame below, or the end
 abbrev pub below : Top → Top

@@ -42,6 +42,7 @@ fn end_of(number: u32) -> End
         31 => End::NoBranch,
         32 => End::BudgetSpent,
         33 => End::NoFrame,
+        34 => End::OutOfRange,
         _ => End::Refused(number),
     }
 }

@@ -3,7 +3,7 @@ ghost use mathlib.Core.Path.{_≡_};
 ghost use Prim.Native.Nat.{ℕ, _+_, _*_, _-_, _<_, _≤_, max};
 ghost use lib.ListN.{length, getD, drop};
 ghost use Rattle.meaning.specs.Marks.{findMark};
-ghost use Rattle.meaning.specs.Plain.{arithmetic};
+ghost use Rattle.meaning.specs.Plain.{ranged, arithmetic};
 ghost use Rattle.meaning.specs.Machine.{run};
 ghost use Rattle.meaning.specs.InPlace.{begins};
 ghost use Rattle.standing.specs.Bytes.{markAt, arityIn, paramsIn, bodyIn};
@@ -104,22 +104,19 @@ fn number(file: &[u8], work: &mut [u32], s: State) -> State
     bind(work, s, n as u32, at + 4)
 }
 
-// AR's operations on two numbers.
-fn sum(op: usize, a: u32, b: u32) -> u32
-    ensures { λ r. ⌜ r ≡ arithmetic op a b ⌝ }
+// AR's operations on two numbers: the result, or a number over 65,535 where the exact one is outside 0..65,535.
+fn sum(op: usize, a: u32, b: u32) -> u64
+    ensures { λ r. ⌜ ranged r ≡ arithmetic op a b ⌝ }
 {
     match op {
-        0 => ((a as u64 + b as u64) % 65536) as u32,
-        1 => {
-            let minus: u64 = if b <= 65536 { 65536 - b as u64 } else { 0 };
-            ((a as u64 + minus) % 65536) as u32
-        }
+        0 => a as u64 + b as u64,
+        1 => if b <= a { (a - b) as u64 } else { 65536 },
         2 => if a < b { 1 } else { 0 },
         _ => if a == b { 1 } else { 0 },
     }
 }
 
-// AR: bind the result of an operation.
+// AR: bind the result of an operation, or end the run where it is outside 0..65,535.
 fn arith(file: &[u8], work: &mut [u32], s: State) -> State
     requires { ⌜ Room 5 (now file) (top s (now work)) × (s .frame .bound < 32) ⌝ }
     ensures { λ r. ⌜ top r (now (work .exit)) ≡ arOf (now (file .entry)) (top s (now (work .entry))) ⌝ }
@@ -129,7 +126,10 @@ fn arith(file: &[u8], work: &mut [u32], s: State) -> State
     let a = slot(file, work, base, at + 3);
     let b = slot(file, work, base, at + 4);
     let v = sum(byte(file, at + 2), a, b);
-    bind(work, s, v, at + 5)
+    if 65535 < v {
+        return finish(s, 34, 0);
+    }
+    bind(work, s, v as u32, at + 5)
 }
 
 // AT: bind an atom.

@@ -46,9 +46,11 @@ number (end.Refused n) = n
 number end.NoBranch = 31
 number end.BudgetSpent = 32
 number end.NoFrame = 33
+number end.OutOfRange = 34
 
 unfoldable pub endOf : ℕ → End
-endOf n = pick (eqb n 0) end.Done (pick (eqb n 31) end.NoBranch (pick (eqb n 32) end.BudgetSpent (pick (eqb n 33) end.NoFrame (end.Refused n))))
+endOf n =
+    pick (eqb n 0) end.Done (pick (eqb n 31) end.NoBranch (pick (eqb n 32) end.BudgetSpent (pick (eqb n 33) end.NoFrame (pick (eqb n 34) end.OutOfRange (end.Refused n)))))
 
 -- the first n words zero, and the rest untouched
 unfoldable pub wiped : ℕ → List ℕ → List ℕ

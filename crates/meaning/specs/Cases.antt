@@ -1,4 +1,5 @@
--- Document 01's proved cases, P1 to P14, and P11's start with budget 0 (M-103): one table, one theorem about the definitions over it. Assumes nothing.
+-- Document 01's proved cases, P1 to P14, P11's start with budget 0 (M-103), and the ends of AR's range (M-101): one table, one theorem about the definitions over it.
+-- Assumes nothing.
 use Prim.Native.Nat.{ℕ, zero, suc, _+_, _*_}
 use mathlib.Core.List.{List, [], _∷_, _++_, map}
 use mathlib.Core.Path.{_≡_, refl}
@@ -39,6 +40,10 @@ one-branch = set (take 20 reversal ++ drop 26 reversal) 19 0x01
 -- P14's file: a function that calls itself and waits
 abbrev pub waiting : List ℕ
 waiting = 0x46 ∷ 0x4E ∷ 0x00 ∷ 0x00 ∷ 0x42 ∷ 0x44 ∷ 0x43 ∷ 0x4C ∷ 0x00 ∷ 0x47 ∷ 0x56 ∷ 0x00 ∷ 0x4E ∷ 0x44 ∷ []
+
+-- an operation on two numbers, and its result given back: 0 add, 1 subtract, 2 smaller, 3 equal
+abbrev pub operating : (operation : ℕ) → List ℕ
+operating o = 0x46 ∷ 0x4E ∷ 0x02 ∷ 0x00 ∷ 0x00 ∷ 0x00 ∷ 0x42 ∷ 0x44 ∷ 0x41 ∷ 0x52 ∷ o ∷ 0x00 ∷ 0x01 ∷ 0x47 ∷ 0x56 ∷ 0x02 ∷ 0x4E ∷ 0x44 ∷ []
 
 abbrev pub two-cells : Store
 two-cells = 1 ∷ 5 ∷ 65537 ∷ 0 ∷ 0 ∷ 1 ∷ 7 ∷ 0 ∷ 0 ∷ 0 ∷ []
@@ -95,6 +100,11 @@ cases =
     ∷ gives (run-on waiting [] [] 40) (answers ends.NoFrame 0 32 6 32 [])
     -- P11's start with budget 0: no node begins
     ∷ gives (run-on reversal (65536 ∷ 0 ∷ []) two-cells 0) (answers ends.BudgetSpent 0 0 16 1 two-cells)
+    -- the ends of the range: 65,535 + 0, 65,535 + 1, 0 - 0, 0 - 1
+    ∷ gives (run-on (operating 0) (65535 ∷ 0 ∷ []) [] 8) (answers ends.Done 65535 2 0 1 [])
+    ∷ gives (run-on (operating 0) (65535 ∷ 1 ∷ []) [] 8) (answers ends.OutOfRange 0 1 8 1 [])
+    ∷ gives (run-on (operating 1) (0 ∷ 0 ∷ []) [] 8) (answers ends.Done 0 2 0 1 [])
+    ∷ gives (run-on (operating 1) (0 ∷ 1 ∷ []) [] 8) (answers ends.OutOfRange 0 1 8 1 [])
     ∷ []
 
 pub all-cases : map (λ c. told-of (c .asked)) cases ≡ map (λ c. c .expected) cases

@@ -145,7 +145,8 @@ printed =
     "accepted flat 1 1" ∷ "refused 9 at 39" ∷ "refused 8 at 33" ∷ "refused 7 at 32" ∷ "refused 9 at 25" ∷ "refused 8 at 25" ∷ "refused 12 at 28"
     ∷ "refused 2 at 41" ∷ "refused 2 at 0" ∷ "refused 6 at 42" ∷ "refused 11 at 8"
     ∷ "0 65537 8 0 1" ∷ "32 0 7 23 1" ∷ "23 0 0 0 0"
-    ∷ "accepted flat 1 1" ∷ "31 0 1 16 1" ∷ "accepted stacked 1" ∷ "33 0 32 6 32" ∷ "32 0 0 16 1" ∷ []
+    ∷ "accepted flat 1 1" ∷ "31 0 1 16 1" ∷ "accepted stacked 1" ∷ "33 0 32 6 32" ∷ "32 0 0 16 1"
+    ∷ "0 65535 2 0 1" ∷ "34 0 1 8 1" ∷ "0 0 2 0 1" ∷ "34 0 1 8 1" ∷ []
 
 asked-lines : map (λ c. line-for (c .asked)) cases ≡ map line-of (map (λ c. told-of (c .asked)) cases)
 unfolding check-line run-line decoded pick well-formed request words-in word-in zeros answer-of told-of

@@ -1,4 +1,4 @@
--- The runs among the proved cases that start (P11, P13, P14, and P11's start with budget 0), on plain trees and on the machine. Assumes nothing.
+-- The runs among the proved cases that start (P11, P13, P14, P11's start with budget 0, the ends of AR's range), on plain trees and on the machine. Assumes nothing.
 use Prim.Native.Nat.{ℕ, zero, suc, _+_, _*_}
 use mathlib.Core.List.{List, [], _∷_, _++_, map}
 use mathlib.Core.Path.{_≡_, refl}
@@ -14,7 +14,7 @@ use Rattle.meaning.specs.Walk.{visit, visits, drain}
 use Rattle.meaning.specs.Start.{start, answer-to, first, owned-walk, all-walk, free-walk}
 use Rattle.meaning.specs.Decode.{tree, plain-args, as-plain}
 use Rattle.meaning.specs.Plain.{Value, number, node, values, empty, more, Run, value, stop, eval, evaluate}
-use Rattle.meaning.specs.Cases.{reversal, one-branch, waiting, two-cells}
+use Rattle.meaning.specs.Cases.{reversal, one-branch, waiting, operating, two-cells}
 
 pub record Start : Type 0 where
   pub file : List ℕ
@@ -32,13 +32,19 @@ started =
     ∷ starts one-branch (0 ∷ 0 ∷ []) [] 8
     ∷ starts waiting [] [] 40
     ∷ starts reversal (65536 ∷ 0 ∷ []) two-cells 0
+    ∷ starts (operating 0) (65535 ∷ 0 ∷ []) [] 8
+    ∷ starts (operating 0) (65535 ∷ 1 ∷ []) [] 8
+    ∷ starts (operating 1) (0 ∷ 0 ∷ []) [] 8
+    ∷ starts (operating 1) (0 ∷ 1 ∷ []) [] 8
     ∷ []
 
 abbrev pub reversed : Value
 reversed = node 1 (more (number 7) (more (node 1 (more (number 5) (more (node 0 empty) empty))) empty))
 
 abbrev pub expected : List (Outcome Run)
-expected = ok (value reversed 8 1) ∷ ok (stop 32 23 7 1) ∷ ok (stop 31 16 1 1) ∷ ok (stop 33 6 32 32) ∷ ok (stop 32 16 0 1) ∷ []
+expected =
+    ok (value reversed 8 1) ∷ ok (stop 32 23 7 1) ∷ ok (stop 31 16 1 1) ∷ ok (stop 33 6 32 32) ∷ ok (stop 32 16 0 1)
+    ∷ ok (value (number 65535) 2 1) ∷ ok (stop 34 8 1 1) ∷ ok (value (number 0) 2 1) ∷ ok (stop 34 8 1 1) ∷ []
 
 abbrev pub plain-run : Start → Outcome Run
 plain-run c =

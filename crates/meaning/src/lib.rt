@@ -236,13 +236,15 @@ pub enum Verdict {
     Refused(u32, u32),
 }
 
-// How a run ends: with a value, by a refusal's number, with no branch that fits, with the budget spent, or for want of a frame.
+// How a run ends: with a value, by a refusal's number, with no branch that fits, with the budget spent, for want of a frame, or at a sum or a
+// difference outside 0..65,535.
 pub enum End {
     Done,
     Refused(u32),
     NoBranch,
     BudgetSpent,
     NoFrame,
+    OutOfRange,
 }
 
 // The answer of a run.

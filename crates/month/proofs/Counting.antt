@@ -148,11 +148,11 @@ known-end words at h = rw (no-run words at h)
 
 -- ---- the table of answer numbers
 
-table-length : length numbers ≡ 21
+table-length : length numbers ≡ 22
 unfolding numbers
 table-length = refl
 
-pub among-found : (n i : ℕ) → i < 21 → n ≡ getD numbers i 0 → among n (drop i numbers) ≡ true
+pub among-found : (n i : ℕ) → i < 22 → n ≡ getD numbers i 0 → among n (drop i numbers) ≡ true
 unfolding among pick
 among-found n i h e = rw (drop-cons numbers i 0 (omega (arith, table-length)), eq-eqb n (getD numbers i 0) e)
 
@@ -160,24 +160,24 @@ among-step : (n m : ℕ) (rest : List ℕ) → (n ≡ m → ⊥) → among n (m 
 unfolding among pick
 among-step n m rest e = rw (ne-eqb n m e)
 
-pub among-later : (n i : ℕ) → i < 21 → (n ≡ getD numbers i 0 → ⊥) → among n (drop i numbers) ≡ among n (drop (i + 1) numbers)
+pub among-later : (n i : ℕ) → i < 22 → (n ≡ getD numbers i 0 → ⊥) → among n (drop i numbers) ≡ among n (drop (i + 1) numbers)
 among-later n i h e =
     let s : suc i ≡ i + 1 = omega arith in
     ap (λ l. among n l) (drop-cons numbers i 0 (omega (arith, table-length))) ∙ among-step n (getD numbers i 0) (drop (suc i) numbers) e ∙ ap (λ k. among n (drop k numbers)) s
 
-pub among-end : (n i : ℕ) → 21 ≤ i → among n (drop i numbers) ≡ false
+pub among-end : (n i : ℕ) → 22 ≤ i → among n (drop i numbers) ≡ false
 unfolding among
 among-end n i h = rw (drop-of-length-le numbers (subst (λ m. m ≤ i) (sym table-length) h))
 
-pub counts-start : (f : ℕ → ℕ) → replicate 21 0 ≡ partly f numbers 0
+pub counts-start : (f : ℕ → ℕ) → replicate 22 0 ≡ partly f numbers 0
 counts-start f = sym (ap (λ m. replicate m 0) table-length) ∙ partly-none f numbers
 
-pub counts-next : (f : ℕ → ℕ) (l : List ℕ) (i n x : ℕ) → l ≡ partly f numbers i → i < 21 → n ≡ getD numbers i 0 → x ≡ f n → set l i x ≡ partly f numbers (i + 1)
+pub counts-next : (f : ℕ → ℕ) (l : List ℕ) (i n x : ℕ) → l ≡ partly f numbers i → i < 22 → n ≡ getD numbers i 0 → x ≡ f n → set l i x ≡ partly f numbers (i + 1)
 counts-next f l i n x e h t v = let s : suc i ≡ i + 1 = omega arith in rw (e, v, t, ← s) (partly-next f numbers i (omega (arith, table-length)))
 
-pub counts-done : (f : ℕ → ℕ) (l : List ℕ) (i : ℕ) → l ≡ partly f numbers i → i ≤ 21 → 21 ≤ i → l ≡ map f numbers
+pub counts-done : (f : ℕ → ℕ) (l : List ℕ) (i : ℕ) → l ≡ partly f numbers i → i ≤ 22 → 22 ≤ i → l ≡ map f numbers
 counts-done f l i e h k = let s : i ≡ length numbers = omega (arith, table-length) in e ∙ ap (λ m. partly f numbers m) s ∙ partly-all f numbers
 
 -- past the table stands 0
-pub past-table : (i : ℕ) → 21 ≤ i → 0 ≡ getD numbers i 0
+pub past-table : (i : ℕ) → 22 ≤ i → 0 ≡ getD numbers i 0
 past-table i h = sym (List·getD-eq-default numbers 0 (subst (λ m. m ≤ i) (sym table-length) h))

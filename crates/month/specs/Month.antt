@@ -26,7 +26,7 @@ runsOf (n ∷ (s ∷ (f ∷ rest))) = run n s f ∷ runsOf rest
 
 -- the answer numbers of a run in document 01's table
 unfoldable pub numbers : List ℕ
-numbers = 0 ∷ 1 ∷ 2 ∷ 3 ∷ 4 ∷ 5 ∷ 6 ∷ 7 ∷ 8 ∷ 9 ∷ 10 ∷ 11 ∷ 12 ∷ 20 ∷ 21 ∷ 22 ∷ 23 ∷ 24 ∷ 31 ∷ 32 ∷ 33 ∷ []
+numbers = 0 ∷ 1 ∷ 2 ∷ 3 ∷ 4 ∷ 5 ∷ 6 ∷ 7 ∷ 8 ∷ 9 ∷ 10 ∷ 11 ∷ 12 ∷ 20 ∷ 21 ∷ 22 ∷ 23 ∷ 24 ∷ 31 ∷ 32 ∷ 33 ∷ 34 ∷ []
 
 unfoldable pub among : ℕ → List ℕ → Bool
 among n [] = false
@@ -101,7 +101,7 @@ figures runs = record { number = 0; counts = countsOf runs; least = least (steps
 
 -- a refusal has its number alone
 unfoldable pub refused : ℕ → Summary
-refused n = record { number = n; counts = replicate 21 0; least = 0; greatest = 0; most = 0; frames = 0 }
+refused n = record { number = n; counts = replicate 22 0; least = 0; greatest = 0; most = 0; frames = 0 }
 
 -- "80 over 4,096 runs or a part of one, 81 an answer number not in the table"
 unfoldable pub monthOf : (words : List ℕ) → Summary

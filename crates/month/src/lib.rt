@@ -9,7 +9,7 @@ ghost use Rattle.month.specs.Month.{numbers, among, runsOf, known, count
 // The figures of a month. `number` is 0, or the refusal's 80 or 81 with all else 0; `counts` are in the order of the table of answer numbers.
 pub struct Summary {
     pub number: u32,
-    pub counts: [u32; 21],
+    pub counts: [u32; 22],
     pub least: u32,
     pub greatest: u32,
     pub most: u32,
@@ -17,7 +17,7 @@ pub struct Summary {
 }
 
 // The answer numbers of a run in document 01's table.
-const NUMBERS: [u32; 21] = [
+const NUMBERS: [u32; 22] = [
     0,
     1,
     2,
@@ -39,11 +39,12 @@ const NUMBERS: [u32; 21] = [
     31,
     32,
     33,
+    34,
 ];
 
 // The answer number at a place in the table.
 fn table_number(i: usize) -> u32
-    requires { ⌜ i < 21 ⌝ }
+    requires { ⌜ i < 22 ⌝ }
     ensures { λ r. ⌜ r ≡ getD numbers i 0 ⌝ }
 {
     NUMBERS[i]
@@ -53,7 +54,7 @@ fn table_number(i: usize) -> u32
 pub fn number_at(i: usize) -> u32
     ensures { λ r. ⌜ r ≡ getD numbers i 0 ⌝ }
 {
-    if i < 21 {
+    if i < 22 {
         return table_number(i);
     }
     0
@@ -64,7 +65,7 @@ fn in_table(number: u32) -> bool
     ensures { λ r. ⌜ r ≡ among number numbers ⌝ }
 {
     let mut i: usize = 0;
-    while i < 21 {
+    while i < 22 {
         if number == number_at(i) {
             return true;
         }
@@ -112,13 +113,13 @@ fn count_of(runs: &[u32], number: u32) -> u32
 }
 
 // The counts of all answer numbers in the table's order.
-fn counts_of(runs: &[u32]) -> [u32; 21]
+fn counts_of(runs: &[u32]) -> [u32; 22]
     requires { ⌜ length (now runs) ≤ 12288 ⌝ }
     ensures { λ r. ⌜ r ≡ countsOf (runsOf (now (runs .entry))) ⌝ }
 {
-    let mut counts: [u32; 21] = [0; 21];
+    let mut counts: [u32; 22] = [0; 22];
     let mut i: usize = 0;
-    while i < 21 {
+    while i < 22 {
         counts[i] = count_of(runs, number_at(i));
         i += 1;
     }
@@ -242,7 +243,7 @@ fn refused(number: u32) -> Summary
 {
     Summary {
         number,
-        counts: [0; 21],
+        counts: [0; 22],
         least: 0,
         greatest: 0,
         most: 0,

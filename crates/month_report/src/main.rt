@@ -59,6 +59,7 @@ fn say_meaning(number: u32) {
         31 => say(b"no branch fits\n"),
         32 => say(b"budget spent\n"),
         33 => say(b"no frame left\n"),
+        34 => say(b"a sum or a difference outside 0..65,535\n"),
         _ => say(b"\n"),
     }
 }
@@ -76,9 +77,9 @@ fn say_count(number: u32, count: u32) {
 }
 
 // Prints the lines of all answer numbers that occur.
-fn say_counts(counts: [u32; 21]) {
+fn say_counts(counts: [u32; 22]) {
     let mut i: usize = 0;
-    while i < 21 {
+    while i < 22 {
         say_count(month::number_at(i), counts[i]);
         i += 1;
     }

@@ -12,7 +12,7 @@ use borrow.Author.Tests.{ltb-true}
 use Rattle.meaning.specs.Syntax.{Sort, Mode, Signature, Term, Branches, Constructor, File}
 use Rattle.meaning.specs.Syntax.{GV, AT, MK, CL, TL, OP, LK, NU, AR, IF, BR, end}
 use Rattle.meaning.specs.Outcome.{Outcome, ok, refuse}
-use Rattle.meaning.specs.Plain.{branch}
+use Rattle.meaning.specs.Plain.{branch, arithmetic}
 use Rattle.meaning.specs.Machine.{Held, Store, Frame, State, state, Step, next, finished, stuck, step, run, Answer, answers, word, held, constructor-of, function-of}
 use Rattle.meaning.specs.Start.{start, answer-to}
 use Rattle.meaning.specs.Verdict.{accepted}
@@ -20,11 +20,11 @@ use Rattle.meaning.specs.InPlace.{after, height, greatest, Goes-on, Ended, In-p
 use Rattle.theory.proofs.Passing.{contradiction}
 use Rattle.theory.proofs.Iterate.{run-store, run-frames, run-ends, greatest-first}
 
--- a step that ends without a value ends in 31 or 33
+-- a step that ends without a value ends in 31, 33 or 34
 abbrev pub Ends-so : Step → Type 0
 Ends-so (next st) = Unit {0}
 Ends-so (finished v) = Unit {0}
-Ends-so (stuck a p) = (a ≡ 31) ⊎ (a ≡ 33)
+Ends-so (stuck a p) = (a ≡ 31) ⊎ ((a ≡ 33) ⊎ (a ≡ 34))
 
 module _ (file : File) where
   if-so : (n : ℕ) (a b : State) → Ends-so (elim n as (λ _. Step) [ zero ↦ next a | suc _ ↦ next b ])
@@ -33,11 +33,15 @@ module _ (file : File) where
 
   call-so : (b : Bool) (p : ℕ) (st : State) → Ends-so (elim b as (λ _. Step) [ false ↦ stuck 33 p | true ↦ next st ])
   call-so true p st = tt
-  call-so false p st = inr refl
+  call-so false p st = inr (inl refl)
 
   branch-so : (o : Option Term) (p : ℕ) (f : Term → State) → Ends-so (elim o as (λ _. Step) [ none ↦ stuck 31 p | some t ↦ next (f t) ])
   branch-so none p f = inl refl
   branch-so (some t) p f = tt
+
+  arith-so : (o : Option ℕ) (p : ℕ) (f : ℕ → State) → Ends-so (elim o as (λ _. Step) [ none ↦ stuck 34 p | some n ↦ next (f n) ])
+  arith-so none p f = inr (inr refl)
+  arith-so (some n) p f = tt
 
   stops-so : (t : Term) (hs : List Held) (store : Store) (under : List Frame) → Ends-so (step file (state store t hs under))
   unfolding step
@@ -50,11 +54,19 @@ module _ (file : File) where
   stops-so (OP p s bs) hs store under = branch-so (branch bs (constructor-of store (word (held hs s)))) p _
   stops-so (LK p s bs) hs store under = branch-so (branch bs (constructor-of store (word (held hs s)))) p _
   stops-so (NU p n t) hs store under = tt
-  stops-so (AR p o x y t) hs store under = tt
+  stops-so (AR p o x y t) hs store under = arith-so (arithmetic o (word (held hs x)) (word (held hs y))) p _
   stops-so (IF p s t u) hs store under = if-so (word (held hs s)) _ _
 
-  pub stuck-so : (st : State) (a p : ℕ) → step file st ≡ stuck a p → (a ≡ 31) ⊎ (a ≡ 33)
+  pub stuck-so : (st : State) (a p : ℕ) → step file st ≡ stuck a p → (a ≡ 31) ⊎ ((a ≡ 33) ⊎ (a ≡ 34))
   stuck-so st a p e = subst Ends-so e (stops-so (st .top .todo) (st .top .slots) (st .store) (st .under))
+
+  pub stuck-within : (st : State) (a p : ℕ) → step file st ≡ stuck a p → (31 ≤ a) × (a ≤ 34)
+  stuck-within st a p e = go (stuck-so st a p e)
+    where
+      go : (a ≡ 31) ⊎ ((a ≡ 33) ⊎ (a ≡ 34)) → (31 ≤ a) × (a ≤ 34)
+      go (inl q) = (omega arith, omega arith)
+      go (inr (inl q)) = (omega arith, omega arith)
+      go (inr (inr q)) = (omega arith, omega arith)
 
 -- never more than 32 frames
 abbrev pub Few : Step → Type 0
@@ -71,6 +83,10 @@ module _ (file : File) where
   few-branch none p f l = tt
   few-branch (some t) p f l = l t
 
+  few-arith : (o : Option ℕ) (p : ℕ) (f : ℕ → State) → ((n : ℕ) → height (f n) ≤ 32) → Few (elim o as (λ _. Step) [ none ↦ stuck 34 p | some n ↦ next (f n) ])
+  few-arith none p f l = tt
+  few-arith (some n) p f l = l n
+
   few-call : (n p : ℕ) (b : Bool) (st : State) → ltb n 31 ≡ b → height st ≡ suc (suc n) → Few (elim b as (λ _. Step) [ false ↦ stuck 33 p | true ↦ next st ])
   few-call n p true st e q = omega (arith, ltb-true n 31 e)
   few-call n p false st e q = tt
@@ -86,7 +102,7 @@ module _ (file : File) where
   few-step (OP p s bs) hs store under l = few-branch (branch bs (constructor-of store (word (held hs s)))) p _ (λ t. l)
   few-step (LK p s bs) hs store under l = few-branch (branch bs (constructor-of store (word (held hs s)))) p _ (λ t. l)
   few-step (NU p n t) hs store under l = l
-  few-step (AR p o x y t) hs store under l = l
+  few-step (AR p o x y t) hs store under l = few-arith (arithmetic o (word (held hs x)) (word (held hs y))) p _ (λ n. l)
   few-step (IF p s t u) hs store under l = few-if (word (held hs s)) _ _ l l
 
   pub few-after : (n : ℕ) (st : State) → height st ≤ 32 → height (after file n st) ≤ 32
@@ -132,7 +148,8 @@ module _ (bytes : List ℕ) (file : File) (work : ℕ) (args : List ℕ) (store 
   done-in-place r (Ended.budget o) q = absurd (omega arith)
   done-in-place r (Ended.value {v} m l o f) q = r .value m v f
   done-in-place r (Ended.stop {a = n} {p} m l o f) q =
-      absurd (elim (stuck-so file (after file m (begins file args store)) n p f) [ inl h ↦ contradiction (omega arith) | inr h ↦ contradiction (omega arith) ])
+      let h = stuck-within file (after file m (begins file args store)) n p f in
+      absurd (omega (arith, h .0))
 
   pub answer-in-place : (r : Runs-in-place file args store) → answer-to bytes work args store budget .answer ≡ 0
       → In-place (file .constructors) (r .start) store (answer-to bytes work args store budget .after)

@@ -11,7 +11,7 @@ use Rattle.meaning.specs.Outcome.{Outcome, ok, refuse}
 use Rattle.meaning.specs.Reading.{read}
 use Rattle.meaning.specs.Calls.{Flat}
 use Rattle.meaning.specs.Verdict.{accepted}
-use Rattle.meaning.specs.Plain.{Value, value, evaluate}
+use Rattle.meaning.specs.Plain.{Value, value, stop, evaluate}
 use Rattle.meaning.specs.Machine.{Store, Answer, function-of}
 use Rattle.meaning.specs.Decode.{plain, plain-args, mode-of}
 use Rattle.meaning.specs.Start.{In, Reached, chosen, is-owned, start, answer-to}
@@ -21,7 +21,7 @@ use Rattle.theory.proofs.Answered.{answer-ended, answer-store, answer-f
 use Rattle.theory.proofs.Flat.{flat-answer}
 use Rattle.theory.proofs.EveryCall.{every-call}
 use Rattle.theory.proofs.Judged.{unread, Judged, judged, verdict-few, flat-shape}
-use Rattle.theory.proofs.GivesValue.{value-exactly, ended-steps, never-deeper}
+use Rattle.theory.proofs.GivesValue.{value-exactly, stop-exactly, ended-steps, never-deeper}
 use Rattle.theory.proofs.StartCellsReached.{start-cells}
 use Rattle.theory.proofs.RunsAsPlain.{runs-as-plain}
 use Rattle.theory.proofs.InPlaceRun.{starts-in-place, value-in-place}
@@ -70,13 +70,15 @@ demand-1-check bytes = go (read bytes) refl
 
 -- 2. "A file of document 01's layout is accepted exactly when each of its functions can be derived by the FIP rules; otherwise the first fault
 -- is named. A run gives a value exactly when working the functions out on plain trees gives it, with the same steps, within the budget and 32
--- frames."
+-- frames." It ends in 31, 32, 33 or 34 exactly when they do, with the same steps, place and frames.
 pub record Runs-plainly (file : File) (args : List ℕ) (store : Store) (budget : ℕ) (r : Ended) : Type 0 where
   -- the whole answer: number, value as a tree, steps, place and frames
   pub same : plainly file r ≡ evaluate file budget (plain-args (file .constructors) store (function-of file 0 .parameters) args)
   pub gives : (v : Value) (k g : ℕ) → (evaluate file budget (plain-args (file .constructors) store (function-of file 0 .parameters) args) ≡ value v k g)
       ↔ ((number (r .answer .end) ≡ 0) × (plain (file .constructors) (r .store) (mode-of (function-of file 0 .result)) (r .answer .value) ≡ v)
       × (r .answer .steps ≡ k) × (r .answer .frames ≡ g))
+  pub stops : (n p k g : ℕ) → 1 ≤ n → (evaluate file budget (plain-args (file .constructors) store (function-of file 0 .parameters) args) ≡ stop n p k g)
+      ↔ ((number (r .answer .end) ≡ n) × (r .answer .place ≡ p) × (r .answer .steps ≡ k) × (r .answer .frames ≡ g))
   pub within : (r .answer .steps ≤ budget) × (r .answer .frames ≤ 32)
 
 pub record Judges-and-runs (bytes : List ℕ) : Type 0 where
@@ -92,10 +94,12 @@ runs-plainly bytes file e args store work budget s =
     let a : Answer = answer-to bytes (length work) args store budget in
     let p = runs-as-plain bytes file (length work) args store budget e s in
     let x = value-exactly file a (evaluate file budget (plain-args (file .constructors) store (function-of file 0 .parameters) args)) p in
+    let y = stop-exactly file a (evaluate file budget (plain-args (file .constructors) store (function-of file 0 .parameters) args)) p in
     let q = number-end (a .answer) in
     record {
       same = plainly-is file a work ∙ p;
       gives = λ v k g. (λ h. let y = x v k g .0 h in (q ∙ y .0, y .1, y .2, y .3), λ y. x v k g .1 (sym q ∙ y .0, y .1, y .2, y .3));
+      stops = λ n p k g l. (λ h. let z = y n p k g l .0 h in (q ∙ z .0, z .1, z .2, z .3), λ z. y n p k g l .1 (sym q ∙ z .0, z .1, z .2, z .3));
       within = (ended-steps (answer-ended bytes file (length work) args store budget e s), answer-few bytes file (length work) args store budget e s);
     }
 

@@ -24,6 +24,7 @@ data Ended-so (n : ℕ) : End → Type 0 where
   no-branch : n ≡ 31 → Ended-so n end.NoBranch
   budget-spent : n ≡ 32 → Ended-so n end.BudgetSpent
   no-frame : n ≡ 33 → Ended-so n end.NoFrame
+  out-of-range : n ≡ 34 → Ended-so n end.OutOfRange
   refused : (n ≡ 0 → ⊥) → Ended-so n (end.Refused n)
 
 ended-so : (n : ℕ) → Ended-so n (endOf n)
@@ -40,7 +41,11 @@ ended-so n =
     (λ (c : n ≡ 32 → ⊥).
     ⊎-elim
     (λ (d : n ≡ 33). rw (ne-eqb n 0 a, ne-eqb n 31 b, ne-eqb n 32 c, eq-eqb n 33 d) (Ended-so.no-frame d))
-    (λ (d : n ≡ 33 → ⊥). rw (ne-eqb n 0 a, ne-eqb n 31 b, ne-eqb n 32 c, ne-eqb n 33 d) (Ended-so.refused a))
+    (λ (d : n ≡ 33 → ⊥).
+    ⊎-elim
+    (λ (e : n ≡ 34). rw (ne-eqb n 0 a, ne-eqb n 31 b, ne-eqb n 32 c, ne-eqb n 33 d, eq-eqb n 34 e) (Ended-so.out-of-range e))
+    (λ (e : n ≡ 34 → ⊥). rw (ne-eqb n 0 a, ne-eqb n 31 b, ne-eqb n 32 c, ne-eqb n 33 d, ne-eqb n 34 e) (Ended-so.refused a))
+    (same? n 34))
     (same? n 33))
     (same? n 32))
     (same? n 31))
@@ -51,6 +56,7 @@ number-so (Ended-so.done q) = sym q
 number-so (Ended-so.no-branch q) = sym q
 number-so (Ended-so.budget-spent q) = sym q
 number-so (Ended-so.no-frame q) = sym q
+number-so (Ended-so.out-of-range q) = sym q
 number-so (Ended-so.refused q) = refl
 
 pub number-end : (n : ℕ) → number (endOf n) ≡ n
@@ -65,6 +71,7 @@ plainly file r =
       | end.NoBranch ↦ stop 31 (r .answer .place) (r .answer .steps) (r .answer .frames)
       | end.BudgetSpent ↦ stop 32 (r .answer .place) (r .answer .steps) (r .answer .frames)
       | end.NoFrame ↦ stop 33 (r .answer .place) (r .answer .steps) (r .answer .frames)
+      | end.OutOfRange ↦ stop 34 (r .answer .place) (r .answer .steps) (r .answer .frames)
     ]
 
 pub plainly-is : (file : File) (a : Answer) (work : List ℕ) → plainly file (answered a work) ≡ as-plain file a
@@ -84,12 +91,13 @@ plainly-is file a work = go (ended-so (a .answer))
     other (suc n) q = refl
 
     go : {n : ℕ} {e : End} → Ended-so n e
-        → _≡_ {A = Run} (elim e [ end.Done ↦ v | end.Refused m ↦ s m | end.NoBranch ↦ s 31 | end.BudgetSpent ↦ s 32 | end.NoFrame ↦ s 33 ])
+        → _≡_ {A = Run} (elim e [ end.Done ↦ v | end.Refused m ↦ s m | end.NoBranch ↦ s 31 | end.BudgetSpent ↦ s 32 | end.NoFrame ↦ s 33 | end.OutOfRange ↦ s 34 ])
         (elim n [ zero ↦ v | suc k ↦ s (suc k) ])
     go {n} (Ended-so.done q) = rw q
     go {n} (Ended-so.no-branch q) = later n 30 q
     go {n} (Ended-so.budget-spent q) = later n 31 q
     go {n} (Ended-so.no-frame q) = later n 32 q
+    go {n} (Ended-so.out-of-range q) = later n 33 q
     go {n} (Ended-so.refused q) = other n q
 
 -- the work area

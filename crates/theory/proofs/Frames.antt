@@ -15,7 +15,7 @@ use Rattle.meaning.specs.declared.How.the-variants.{Never, Tail, Waits}
 use Rattle.meaning.specs.Syntax.{Sort, Mode, Signature, Term, Branches, Constructor, File}
 use Rattle.meaning.specs.Syntax.{GV, AT, MK, CL, TL, OP, LK, NU, AR, IF, BR, end}
 use Rattle.meaning.specs.Outcome.{Outcome, ok, refuse}
-use Rattle.meaning.specs.Plain.{branch, no-body}
+use Rattle.meaning.specs.Plain.{arithmetic, branch, no-body}
 use Rattle.meaning.specs.Machine.{Held, Store, Frame, State, state, Answer, answers, Step, next, finished, stuck, step, run, body-of, function-of, fields-of, argued, without, word, held, give-up, cell, constructor-of, fields, opened, looked, credit-for}
 use Rattle.meaning.specs.Calls.{call, In, here, there, calls, calls-branches, calls-from, Square, entry, square, Walk, stay, tail, wait, Flat, IsDepth, IsReached, Shape, flat, stacked, shape}
 use Rattle.meaning.specs.Verdict.{accepted}
@@ -208,7 +208,11 @@ module _ (file : File) (small : Callable file) where
       let c = constructor-of store x in
       after-branch bs f c p store (slots ++ fields looked store (cell x) 1 (fields-of file c)) under k w st′ e
   kept store (NU p n t) slots under f k w st′ e = subst (Good sq) (moved e) (f, k, w)
-  kept store (AR p o x y t) slots under f k w st′ e = subst (Good sq) (moved e) (f, k, w)
+  kept store (AR p o x y t) slots under f k w st′ e = go (arithmetic o (word (held slots x)) (word (held slots y))) e
+    where
+      go : (m : Option ℕ) → (elim m as (λ _. Step) [ none ↦ stuck 34 p | some n ↦ next (state store t (slots ++ (Held.number n ∷ [])) under) ]) ≡ next st′ → Good sq st′
+      go none e = absurd (not-stuck e)
+      go (some n) e = subst (Good sq) (moved e) (f, k, w)
   kept store (IF p s t u) slots under f k w st′ e = go (word (held slots s)) e
     where
       go : (n : ℕ) → (elim n as (λ _. Step) [ zero ↦ next (state store u slots under) | suc _ ↦ next (state store t slots under) ]) ≡ next st′ → Good sq st′
@@ -218,21 +222,21 @@ module _ (file : File) (small : Callable file) where
   -- never 33
   module _ (D : ℕ) (depth : IsDepth sq D) (few : D ≤ 32) where
     not-33 : (p : ℕ) (bs : Branches) (k q a : ℕ) (store : Store) (slots : List Held) (under : List Frame)
-        → (elim (branch bs k) as (λ _. Step) [ none ↦ stuck 31 p | some u ↦ next (state store u slots under) ]) ≡ stuck a q → a ≡ 31
+        → (elim (branch bs k) as (λ _. Step) [ none ↦ stuck 31 p | some u ↦ next (state store u slots under) ]) ≡ stuck a q → a ≡ 33 → ⊥
     not-33 p bs k q a store slots under e = go (branch bs k) e
       where
-        go : (o : Option Term) → (elim o as (λ _. Step) [ none ↦ stuck 31 p | some u ↦ next (state store u slots under) ]) ≡ stuck a q → a ≡ 31
-        go none e = cc
-        go (some u) e = absurd (not-stuck (sym e))
+        go : (o : Option Term) → (elim o as (λ _. Step) [ none ↦ stuck 31 p | some u ↦ next (state store u slots under) ]) ≡ stuck a q → a ≡ 33 → ⊥
+        go none e z = let y : 31 ≡ a = cc in omega arith
+        go (some u) e z = absurd (not-stuck (sym e))
 
-    only-31 : (store : Store) (t : Term) (slots : List Held) (under : List Frame) (f : ℕ) → Covered sq t f → Standing sq under f
-        → (a q : ℕ) → step file (state store t slots under) ≡ stuck a q → a ≡ 31
+    never-33 : (store : Store) (t : Term) (slots : List Held) (under : List Frame) (f : ℕ) → Covered sq t f → Standing sq under f
+        → (a q : ℕ) → step file (state store t slots under) ≡ stuck a q → a ≡ 33 → ⊥
     unfolding step calls
-    only-31 store (GV p s) slots [] f k w a q e = let z : _≡_ {A = ℕ} 0 1 = cc in absurd (contradiction z)
-    only-31 store (GV p s) slots (fr ∷ rest) f k w a q e = absurd (not-stuck (sym e))
-    only-31 store (AT p c t) slots under f k w a q e = absurd (not-stuck (sym e))
-    only-31 store (MK p c r ss t) slots under f k w a q e = absurd (not-stuck (sym e))
-    only-31 store (CL p g ss t) slots under f k w a q e = go (ltb (length under) 31) refl e
+    never-33 store (GV p s) slots [] f k w a q e = let z : _≡_ {A = ℕ} 0 1 = cc in absurd (contradiction z)
+    never-33 store (GV p s) slots (fr ∷ rest) f k w a q e = absurd (not-stuck (sym e))
+    never-33 store (AT p c t) slots under f k w a q e = absurd (not-stuck (sym e))
+    never-33 store (MK p c r ss t) slots under f k w a q e = absurd (not-stuck (sym e))
+    never-33 store (CL p g ss t) slots under f k w a q e = go (ltb (length under) 31) refl e
       where
         go : (b : Bool) → ltb (length under) 31 ≡ b
             → (elim b as (λ _. Step) [
@@ -240,23 +244,27 @@ module _ (file : File) (small : Callable file) where
               | true ↦ next (state store (body-of file g) (argued (function-of file g .parameters) slots ss)
                   (record { todo = t; slots = without (function-of file g .parameters) slots ss } ∷ under))
             ]) ≡ stuck a q
-            → a ≡ 31
+            → a ≡ 33 → ⊥
         go false l e = absurd (omega (arith, ltb-false (length under) 31 l, no-more depth (after-CL p g ss {t = t} (without (function-of file g .parameters) slots ss) k w)))
         go true l e = absurd (not-stuck (sym e))
-    only-31 store (TL p g ss) slots under f k w a q e = absurd (not-stuck (sym e))
-    only-31 store (OP p s bs) slots under f k w a q e =
+    never-33 store (TL p g ss) slots under f k w a q e = absurd (not-stuck (sym e))
+    never-33 store (OP p s bs) slots under f k w a q e =
         let x = word (held slots s) in
         let c = constructor-of store x in
         not-33 p bs c q a store (give-up slots s ++ (fields opened store (cell x) 1 (fields-of file c) ++ credit-for (fields-of file c) (cell x))) under e
-    only-31 store (LK p s bs) slots under f k w a q e =
+    never-33 store (LK p s bs) slots under f k w a q e =
         let x = word (held slots s) in
         let c = constructor-of store x in
         not-33 p bs c q a store (slots ++ fields looked store (cell x) 1 (fields-of file c)) under e
-    only-31 store (NU p n t) slots under f k w a q e = absurd (not-stuck (sym e))
-    only-31 store (AR p o x y t) slots under f k w a q e = absurd (not-stuck (sym e))
-    only-31 store (IF p s t u) slots under f k w a q e = go (word (held slots s)) e
+    never-33 store (NU p n t) slots under f k w a q e = absurd (not-stuck (sym e))
+    never-33 store (AR p o x y t) slots under f k w a q e = go (arithmetic o (word (held slots x)) (word (held slots y))) e
       where
-        go : (n : ℕ) → (elim n as (λ _. Step) [ zero ↦ next (state store u slots under) | suc _ ↦ next (state store t slots under) ]) ≡ stuck a q → a ≡ 31
+        go : (m : Option ℕ) → (elim m as (λ _. Step) [ none ↦ stuck 34 p | some n ↦ next (state store t (slots ++ (Held.number n ∷ [])) under) ]) ≡ stuck a q → a ≡ 33 → ⊥
+        go none e z = let y : 34 ≡ a = cc in omega arith
+        go (some n) e z = absurd (not-stuck (sym e))
+    never-33 store (IF p s t u) slots under f k w a q e = go (word (held slots s)) e
+      where
+        go : (n : ℕ) → (elim n as (λ _. Step) [ zero ↦ next (state store u slots under) | suc _ ↦ next (state store t slots under) ]) ≡ stuck a q → a ≡ 33 → ⊥
         go zero e = absurd (not-stuck (sym e))
         go (suc n) e = absurd (not-stuck (sym e))
 
@@ -284,7 +292,7 @@ module _ (file : File) (small : Callable file) where
             let m = no-more depth (w′ .2) in
             ih st′ w′ (omega arith)
         go (finished v) e ih = (l, λ q. omega arith)
-        go (stuck a p) e ih = (l, λ q. omega (arith, only-31 (st .store) (st .top .todo) (st .top .slots) (st .under) (w .0) (w .1) (w .2) a p e))
+        go (stuck a p) e ih = (l, never-33 (st .store) (st .top .todo) (st .top .slots) (st .under) (w .0) (w .1) (w .2) a p e)
 
 -- the states of a run
 pub data Later (file : File) (st : State) : State → Type 0 where

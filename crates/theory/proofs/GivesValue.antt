@@ -1,4 +1,4 @@
--- A run gives a value exactly when the plain evaluation does, and within the budget; a flat file never stands deeper than its depth.
+-- A run gives a value, or stops, exactly when the plain evaluation does, and within the budget; a flat file never stands deeper than its depth.
 -- Assumes nothing.
 use Prim.Native.Nat.{ℕ, zero, suc, _≤_}
 use mathlib.Core.List.{List}
@@ -30,6 +30,14 @@ abbrev depth-of : Run → ℕ
 depth-of (value v k g) = g
 depth-of (stop n p k g) = g
 
+abbrev number-of : Run → ℕ
+number-of (value v k g) = 0
+number-of (stop n p k g) = n
+
+abbrev place-of : Run → ℕ
+place-of (value v k g) = 0
+place-of (stop n p k g) = p
+
 abbrev has-value : Run → ℕ
 has-value (value v k g) = 1
 has-value (stop n p k g) = 0
@@ -55,6 +63,25 @@ module _ (file : File) (a : Answer) where
           zeroed : (n : ℕ) → n ≡ 0
               → _≡_ {A = Run} (elim n [ zero ↦ value tree-of (a .steps) (a .frames) | suc m ↦ stop (suc m) (a .place) (a .steps) (a .frames) ]) (value tree-of (a .steps) (a .frames))
           zeroed n q = rw q
+
+  abbrev Stops : (number place steps frames : ℕ) → Type 0
+  Stops n p k g = (a .answer ≡ n) × (a .place ≡ p) × (a .steps ≡ k) × (a .frames ≡ g)
+
+  stops : (m : ℕ) → a .answer ≡ m → (n p k g : ℕ)
+      → _≡_ {A = Run} (elim m [ zero ↦ value tree-of (a .steps) (a .frames) | suc m ↦ stop (suc m) (a .place) (a .steps) (a .frames) ]) (stop n p k g) → Stops n p k g
+  stops zero e n p k g q = absurd (omega (arith, ap has-value q))
+  stops (suc m) e n p k g q = (e ∙ ap number-of q, ap place-of q, ap steps-of q, ap depth-of q)
+
+  pub stop-exactly : (r : Run) → as-plain file a ≡ r → (n p k g : ℕ) → 1 ≤ n → (r ≡ stop n p k g) ↔ Stops n p k g
+  stop-exactly r e n p k g l = (λ q. stops (a .answer) refl n p k g (e ∙ q), λ h. sym e ∙ given h)
+    where
+      stopped : (m n : ℕ) → m ≡ n → 1 ≤ n
+          → _≡_ {A = Run} (elim m [ zero ↦ value tree-of (a .steps) (a .frames) | suc m ↦ stop (suc m) (a .place) (a .steps) (a .frames) ]) (stop n (a .place) (a .steps) (a .frames))
+      stopped zero n q l = absurd (omega arith)
+      stopped (suc m) n q l = ap (λ x. stop x (a .place) (a .steps) (a .frames)) q
+
+      given : Stops n p k g → as-plain file a ≡ stop n p k g
+      given h = stopped (a .answer) n (h .0) l ∙ (λ i. stop n (h .1 i) (h .2 i) (h .3 i))
 
 -- never more steps than the budget
 pub ended-steps : {file : File} {n : ℕ} {st : State} {g : ℕ} {a : Answer} → Ended file n st 0 g a → a .steps ≤ n

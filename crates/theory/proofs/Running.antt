@@ -32,7 +32,7 @@ stepped a = record { end = endOf (a .answer); value = a .value; steps = a .steps
 refused-end : (n : ℕ) → 1 ≤ n → n ≤ 24 → endOf n ≡ ends.Refused n
 unfolding endOf pick
 refused-end n l m =
-    rw (ne-eqb n 0 (λ e. omega arith), ne-eqb n 31 (λ e. omega arith), ne-eqb n 32 (λ e. omega arith), ne-eqb n 33 (λ e. omega arith))
+    rw (ne-eqb n 0 (λ e. omega arith), ne-eqb n 31 (λ e. omega arith), ne-eqb n 32 (λ e. omega arith), ne-eqb n 33 (λ e. omega arith), ne-eqb n 34 (λ e. omega arith))
 
 module _ (bytes args : List ℕ) (store : Store) (work : List ℕ) (budget : ℕ) where
   -- a refusal's answer in the terms of the definition
@@ -71,7 +71,7 @@ module _ (bytes args : List ℕ) (store : Store) (work : List ℕ) (budget : ℕ
       → ended (refusal n 0) store (wiped 4096 work) ≡ runOf bytes args store work budget
   refused-start file n l m e s = told n 0 (wiped 4096 work) (omega arith) m (left-wiped n work (inr l)) (start-answer file n 0 e s)
 
-  -- 0 and 31 to 33
+  -- 0 and 31 to 34
   pub executed : (file : File) → accepted bytes ≡ ok file → start file (length work) args store ≡ ok tt → (a : M.Answer) → a ≡ run file budget (begins file args store) 0 1
       → ended (stepped a) (a .after) (wiped 4096 work) ≡ runOf bytes args store work budget
   unfolding runOf

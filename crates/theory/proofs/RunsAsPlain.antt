@@ -26,10 +26,10 @@ use Rattle.theory.proofs.StartExact.{is-tree, mixed}
 use Rattle.theory.proofs.Started.{Started, accepted-started}
 use Rattle.theory.proofs.ReadBack.{value-read}
 
--- the plain evaluation stops in 31, 32 or 33 only
+-- the plain evaluation stops in 31, 32, 33 or 34 only
 abbrev pub Stops-so : Run → Type 0
 Stops-so (value v k g) = Unit {0}
-Stops-so (stop n p k g) = (n ≡ 31) ⊎ ((n ≡ 32) ⊎ (n ≡ 33))
+Stops-so (stop n p k g) = (n ≡ 31) ⊎ ((n ≡ 32) ⊎ ((n ≡ 33) ⊎ (n ≡ 34)))
 
 module _ (file : File) (budget : ℕ) where
   after-so : (r : Run) (f : Value → (steps depth : ℕ) → Run) → Stops-so r → ((v : Value) (k g : ℕ) → Stops-so (f v k g)) → Stops-so (P.after r f)
@@ -51,8 +51,12 @@ module _ (file : File) (budget : ℕ) where
   open-so (node c vs) bs p k g f h = branch-so (branch bs c) p k g (f vs) (h vs)
 
   call-so : (b : Bool) (p k g : ℕ) (r : Run) → Stops-so r → Stops-so (elim b as (λ _. Run) [ true ↦ stop 33 p (suc k) g | false ↦ r ])
-  call-so true p k g r h = inr (inr refl)
+  call-so true p k g r h = inr (inr (inl refl))
   call-so false p k g r h = h
+
+  arith-so : (o : Option ℕ) (p k g : ℕ) (f : ℕ → Run) → ((m : ℕ) → Stops-so (f m)) → Stops-so (elim o as (λ _. Run) [ none ↦ stop 34 p (suc k) g | some m ↦ f m ])
+  arith-so none p k g f h = inr (inr (inr refl))
+  arith-so (some m) p k g f h = h m
 
   if-so : (n : ℕ) (a b : Run) → Stops-so a → Stops-so b → Stops-so (elim n as (λ _. Run) [ zero ↦ a | suc _ ↦ b ])
   if-so zero a b h i = h
@@ -77,7 +81,8 @@ module _ (file : File) (budget : ℕ) where
   eval-so (suc n) (OP p s bs) env d k g = budget-so (eqb k budget) p k g _ (open-so (getD env s credit) bs p k g _ (λ vs u. eval-so n u _ d (suc k) g))
   eval-so (suc n) (LK p s bs) env d k g = budget-so (eqb k budget) p k g _ (open-so (getD env s credit) bs p k g _ (λ vs u. eval-so n u _ d (suc k) g))
   eval-so (suc n) (NU p m t) env d k g = budget-so (eqb k budget) p k g _ (eval-so n t _ d (suc k) g)
-  eval-so (suc n) (AR p o x y t) env d k g = budget-so (eqb k budget) p k g _ (eval-so n t _ d (suc k) g)
+  eval-so (suc n) (AR p o x y t) env d k g =
+      budget-so (eqb k budget) p k g _ (arith-so (P.arithmetic o (P.number-in (getD env x credit)) (P.number-in (getD env y credit))) p k g _ (λ m. eval-so n t _ d (suc k) g))
   eval-so (suc n) (IF p s t u) env d k g =
       budget-so (eqb k budget) p k g _ (if-so (P.number-in (getD env s credit)) _ _ (eval-so n u env d (suc k) g) (eval-so n t env d (suc k) g))
 
@@ -111,7 +116,8 @@ module _ (bytes : List ℕ) (file : File) (work : ℕ) (args : List ℕ) (store 
       stopped : (n p k g : ℕ) (store′ : Store) → Stops-so (stop n p k g) → as-plain file (answers n 0 k p g store′) ≡ stop n p k g
       stopped zero p k g store′ (inl e) = absurd (omega arith)
       stopped zero p k g store′ (inr (inl e)) = absurd (omega arith)
-      stopped zero p k g store′ (inr (inr e)) = absurd (omega arith)
+      stopped zero p k g store′ (inr (inr (inl e))) = absurd (omega arith)
+      stopped zero p k g store′ (inr (inr (inr e))) = absurd (omega arith)
       stopped (suc n) p k g store′ o = refl
 
   pub runs-as-plain : as-plain file (answer-to bytes work args store budget) ≡ evaluate file budget env

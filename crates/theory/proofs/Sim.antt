@@ -15,7 +15,7 @@ use Rattle.meaning.specs.Syntax.{GV, AT, MK, CL, TL, OP, LK, NU, AR, IF, BR, en
 use Rattle.meaning.specs.Outcome.{Outcome, ok, refuse, _>>=_, require}
 use Rattle.meaning.specs.Ownership.{Kind, Slot, Slots, fresh, bind, Want, take, pass, member, leftover, done, check, check-branches, check-bodies, check-file, kind-owned, kind-of, mode-owned, bound-by-OP, bound-by-LK, same-sort, no-function}
 use Rattle.meaning.specs.Derivation.{Split, Has, here, there}
-use Rattle.meaning.specs.Plain.{Value, Values, node, empty, more, values, list, with-credit, Run, eval, evaluate, branch, no-body, place-of, body}
+use Rattle.meaning.specs.Plain.{Value, Values, node, empty, more, values, list, with-credit, arithmetic, Run, eval, evaluate, branch, no-body, place-of, body}
 use Rattle.meaning.specs.Plain as P
 use Rattle.meaning.specs.Machine.{Held, Store, Frame, State, state, Answer, answers, word, held, give-up, taken, argued, without, cell, word-at, write, step, run, body-of, function-of, fields-of, constructor-of, fields, opened, looked, credit-for, credit-cell}
 use Rattle.theory.proofs.Splits.{all-right, nothing-left, nothing-right, first, join, swap, has-split, split-has, has-left, has-right, has-cases}
@@ -448,6 +448,16 @@ module _ (file : File) (budget : ℕ) where
     unfolding eval
     eval-OP-none p s c bs vs v q = rw (z, v, q, eval)
 
+    eval-AR : (p o x y m : ℕ) (t : Term) → arithmetic o (P.number-in (value-at env x)) (P.number-in (value-at env y)) ≡ some m
+        → eval file budget (suc n) (AR p o x y t) env d k g ≡ eval file budget n t (env ++ (P.number m ∷ [])) d (suc k) g
+    unfolding eval
+    eval-AR p o x y m t q = rw (z, q, eval)
+
+    eval-AR-none : (p o x y : ℕ) (t : Term) → arithmetic o (P.number-in (value-at env x)) (P.number-in (value-at env y)) ≡ none
+        → eval file budget (suc n) (AR p o x y t) env d k g ≡ P.stop 34 p (suc k) g
+    unfolding eval
+    eval-AR-none p o x y t q = rw (z, q, eval)
+
     eval-LK : (p s c : ℕ) (bs : Branches) (vs : Values) (u : Term) → value-at env s ≡ node c vs → branch bs c ≡ some u
         → eval file budget (suc n) (LK p s bs) env d k g ≡ eval file budget n u (env ++ list vs) d (suc k) g
     unfolding eval
@@ -469,6 +479,16 @@ module _ (file : File) (budget : ℕ) where
         → run file (suc l) (state store (OP p s bs) hs under) k g ≡ answers 31 0 (suc k) p g store
     unfolding run step
     run-OP-none p s bs q = rw (q, run, step)
+
+    run-AR : (p o x y m : ℕ) (t : Term) → arithmetic o (word (held hs x)) (word (held hs y)) ≡ some m
+        → run file (suc l) (state store (AR p o x y t) hs under) k g ≡ run file l (state store t (hs ++ (Held.number m ∷ [])) under) (suc k) (max g (suc (length under)))
+    unfolding run step
+    run-AR p o x y m t q = rw (q, run, step)
+
+    run-AR-none : (p o x y : ℕ) (t : Term) → arithmetic o (word (held hs x)) (word (held hs y)) ≡ none
+        → run file (suc l) (state store (AR p o x y t) hs under) k g ≡ answers 34 0 (suc k) p g store
+    unfolding run step
+    run-AR-none p o x y t q = rw (q, run, step)
 
     run-LK : (p s : ℕ) (bs : Branches) (u : Term) → branch bs (constructor-of store (word (held hs s))) ≡ some u
         → run file (suc l) (state store (LK p s bs) hs under) k g
@@ -685,8 +705,17 @@ module _ (file : File) (budget : ℕ) where
     sim (suc n) (suc l) (AR p o x y t) result slots hs env store under F A k g r d e b q =
         let z : eqb k budget ≡ false = ne-eqb k budget (λ x. omega arith) in
         let w = ar-ready r in
-        rw (z, eval, keeps g under e, w .0, w .1)
-        (ends-later (omega arith) (sim n l t result _ _ _ store under F A (suc k) g (w .2 _) d e (omega arith) (omega arith)))
+        let v : Option ℕ = arithmetic o (P.number-in (value-at env x)) (P.number-in (value-at env y)) in
+        let same : arithmetic o (word (held hs x)) (word (held hs y)) ≡ v = λ i. arithmetic o (w .0 i) (w .1 i) in
+        let d₁ : ℕ = suc (length under) in
+        (elim v as (λ m. v ≡ m
+        → Ends result F store under d₁ k (run file (suc l) (state store (AR p o x y t) hs under) k g) (eval file budget (suc n) (AR p o x y t) env d₁ k g)) [
+          | none ↦ λ h. ends-eq (run-AR-none l store hs under k g p o x y t (same ∙ h)) (eval-AR-none n env d₁ k g z p o x y t h) (Ends.stop store refl)
+          | some m ↦ λ h.
+              ends-eq (run-AR l store hs under k g p o x y m t (same ∙ h) ∙ ap (λ x. run file l (state store t (hs ++ (Held.number m ∷ [])) under) (suc k) x) (keeps g under e))
+              (eval-AR n env d₁ k g z p o x y m t h)
+              (ends-later (omega arith) (sim n l t result _ _ _ store under F A (suc k) g (w .2 m) d e (omega arith) (omega arith)))
+        ]) refl
     sim (suc n) (suc l) (IF p s t u) result slots hs env store under F A k g r d e b q =
         let z : eqb k budget ≡ false = ne-eqb k budget (λ x. omega arith) in
         let w = if-ready r in

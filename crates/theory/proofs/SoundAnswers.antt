@@ -11,14 +11,14 @@ use Rattle.meaning.specs.Machine.{Store, Answer}
 use Rattle.meaning.specs.Start.{start, answer-to}
 use Rattle.meaning.specs.Verdict.{accepted}
 use Rattle.meaning.specs.InPlace.{after, begins, Ended}
-use Rattle.theory.proofs.Answered.{stuck-so, answer-ended}
+use Rattle.theory.proofs.Answered.{stuck-within, answer-ended}
 use Rattle.theory.proofs.StartCounting.{same?}
 use Rattle.theory.proofs.StartExact.{Unfit, fit, start-ok, start-22, start-23, start-24}
 use Rattle.theory.proofs.EveryCall.{Call, every-call}
 
--- the numbers of document 01's table, and those of the refusals
+-- the numbers of document 01's table with 34, and those of the refusals
 abbrev pub In-table : ℕ → Type 0
-In-table n = (n ≤ 12) ⊎ (((20 ≤ n) × (n ≤ 24)) ⊎ ((31 ≤ n) × (n ≤ 33)))
+In-table n = (n ≤ 12) ⊎ (((20 ≤ n) × (n ≤ 24)) ⊎ ((31 ≤ n) × (n ≤ 34)))
 
 abbrev pub Refusal : ℕ → Type 0
 Refusal n = (1 ≤ n) × (n ≤ 24)
@@ -63,15 +63,13 @@ module _ (bytes args : List ℕ) (store : Store) (work : List ℕ) (budget : ℕ
         placeless = λ h. refl;
       }
   ended-sound file s (Ended.stop {a = n} {p} m l o f) =
-      let q : (n ≡ 31) ⊎ (n ≡ 33) = stuck-so file (after file m (begins file args store)) n p f in
-      let low : 31 ≤ n = elim q [ inl e ↦ omega arith | inr e ↦ omega arith ] in
-      let high : n ≤ 33 = elim q [ inl e ↦ omega arith | inr e ↦ omega arith ] in
+      let q = stuck-within file (after file m (begins file args store)) n p f in
       record {
-        tabled = inr (inr (low, high));
-        kept = λ h. absurd (omega (arith, h .1));
+        tabled = inr (inr q);
+        kept = λ h. absurd (omega (arith, h .1, q .0));
         room = λ h. fits file (start-ok file (length work) args store .0 s .0);
         valueless = λ h. refl;
-        placeless = λ h. elim h [ inl e ↦ absurd (omega arith) | inr e ↦ absurd (omega (arith, e .1)) ];
+        placeless = λ h. elim h [ inl e ↦ absurd (omega (arith, q .0)) | inr e ↦ absurd (omega (arith, e .1, q .0)) ];
       }
 
   call-sound : {a : Answer} → Call bytes (length work) args store budget a → Sound-answer a
@@ -107,7 +105,7 @@ module _ (bytes args : List ℕ) (store : Store) (work : List ℕ) (budget : ℕ
   ended-unrefused (Ended.budget o) r = omega (arith, r .1)
   ended-unrefused (Ended.value m l o f) r = omega (arith, r .0)
   ended-unrefused {file} (Ended.stop {a = n} {p} m l o f) r =
-      elim (stuck-so file (after file m (begins file args store)) n p f) [ inl e ↦ omega (arith, r .1) | inr e ↦ omega (arith, r .1) ]
+      omega (arith, r .1, stuck-within file (after file m (begins file args store)) n p f .0)
 
   pub ran : (file : File) → accepted bytes ≡ ok file → start file (length work) args store ≡ ok tt → Refusal (answer-to bytes (length work) args store budget .answer) → ⊥
   ran file e s r = ended-unrefused (answer-ended bytes file (length work) args store budget e s) r

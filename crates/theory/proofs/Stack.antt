@@ -12,7 +12,7 @@ use Rattle.meaning.specs.Syntax.{GV, AT, MK, CL, TL, OP, LK, NU, AR, IF, BR, en
 use Rattle.meaning.specs.Outcome.{Outcome, ok}
 use Rattle.meaning.specs.Ownership.{Kind, Slot, Slots, bind, check, kind-owned}
 use Rattle.meaning.specs.Derivation.{Split, Has}
-use Rattle.meaning.specs.Plain.{Value, branch}
+use Rattle.meaning.specs.Plain.{Value, arithmetic, branch}
 use Rattle.meaning.specs.Machine.{Held, Store, Frame, State, state, Step, finished, stuck, word, held, word-at, constructor-of, argued, without, step, body-of, function-of}
 use Rattle.meaning.specs.Machine as M
 use Rattle.meaning.specs.InPlace.{after}
@@ -118,7 +118,11 @@ module _ (file : File) (budget : ℕ) (final : Sort) (All : List ℕ) where
     unfolding step
     keep (NU p n t) hs store under w = same-cells w (nu-ready file budget (w .ready))
     keep (AT p c t) hs store under w = same-cells w (at-ready file budget (w .ready))
-    keep (AR p o x y t) hs store under w = same-cells w (ar-ready file budget (w .ready) .2 _)
+    keep (AR p o x y t) hs store under w = go (arithmetic o (word (held hs x)) (word (held hs y)))
+      where
+        go : (m : Option ℕ) → Kept before store (elim m as (λ _. Step) [ none ↦ stuck 34 p | some n ↦ M.next (state store t (hs ++ (Held.number n ∷ [])) under) ])
+        go none = tt
+        go (some n) = same-cells w (ar-ready file budget (w .ready) .2 n)
     keep (IF p s t u) hs store under w = go (word (held hs s))
       where
         r : Ready file budget t (w .result) (w .slots) hs (w .env) store (w .own) (w .lents) × Ready file budget u (w .result) (w .slots) hs (w .env) store (w .own) (w .lents)

@@ -20,7 +20,7 @@ pub struct Tree {
     pub fields: Vec<Value>,
 }
 
-/// An end in 31, 32 or 33 at a place.
+/// An end in 31, 32, 33 or 34 at a place.
 #[derive(Clone, Copy, Debug, PartialEq, Eq)]
 pub struct Stop {
     pub number: u32,
@@ -135,6 +135,13 @@ impl Evaluation<'_> {
                         second
                     }
                 }
+                Node::Arithmetic { operation, left, right, next } => {
+                    let Some(result) = arithmetic(*operation, number(&bound, *left), number(&bound, *right)) else {
+                        return Err(Stop { number: 34, place: at.mark });
+                    };
+                    bound.push(Value::Number(result));
+                    next
+                }
                 node => simple(node, &mut bound),
             };
         }
@@ -147,9 +154,6 @@ fn simple<'a>(node: &'a Node, bound: &mut Vec<Value>) -> &'a Term {
         Node::Atom { constructor, next } => (tree(constructor.value, Vec::new()), next),
         Node::Make { constructor, fields, next, .. } => (tree(constructor.value, pick(bound, fields)), next),
         Node::Number { constant, next } => (Value::Number(*constant), next),
-        Node::Arithmetic { operation, left, right, next } => {
-            (Value::Number(arithmetic(*operation, number(bound, *left), number(bound, *right))), next)
-        }
         _ => panic!("a node that binds one value"),
     };
     bound.push(value);
@@ -187,13 +191,15 @@ fn number(bound: &[Value], slot: Byte) -> u32 {
     number
 }
 
-/// The result of an AR.
-pub fn arithmetic(operation: usize, left: u32, right: u32) -> u32 {
-    match operation {
-        0 => (left + right) % 65_536,
-        1 => (left + 65_536 - right) % 65_536,
-        2 => (left < right) as u32,
-        3 => (left == right) as u32,
+/// The result of an AR; nothing if the exact sum or difference is outside 0 to 65,535.
+pub fn arithmetic(operation: usize, left: u32, right: u32) -> Option<u32> {
+    let (left, right) = (i64::from(left), i64::from(right));
+    let exact = match operation {
+        0 => left + right,
+        1 => left - right,
+        2 => i64::from(left < right),
+        3 => i64::from(left == right),
         _ => panic!("an operation from 0 to 3"),
-    }
+    };
+    (0..=65_535).contains(&exact).then_some(exact as u32)
 }

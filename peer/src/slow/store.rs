@@ -82,7 +82,9 @@ impl<'a> Machine<'a> {
                 frame.at = next;
             }
             Node::Arithmetic { operation, left, right, next } => {
-                let result = arithmetic(*operation, frame.words[left.value], frame.words[right.value]);
+                let Some(result) = arithmetic(*operation, frame.words[left.value], frame.words[right.value]) else {
+                    return self.end(34, 0, at.mark);
+                };
                 frame.bind(Kind::Number, result);
                 frame.at = next;
             }

@@ -24,7 +24,11 @@ returns-4 c = simp (c .match .keys4)
 
 returns-5 : tie.Need-returns-5
 unfolding endOf pick
-returns-5 c = simp (ne-eqb _ _ (c .match .rest .0 .0 .0 .1), ne-eqb _ _ (c .match .rest .0 .0 .1), ne-eqb _ _ (c .match .rest .0 .1), ne-eqb _ _ (c .match .rest .1))
+returns-5 c = simp (c .match .keys5)
+
+returns-6 : tie.Need-returns-6
+unfolding endOf pick
+returns-6 c = simp (ne-eqb _ _ (c .match .rest .0 .0 .0 .0 .1), ne-eqb _ _ (c .match .rest .0 .0 .0 .1), ne-eqb _ _ (c .match .rest .0 .0 .1), ne-eqb _ _ (c .match .rest .0 .1), ne-eqb _ _ (c .match .rest .1))
 
 pub end-of-spec : {M : Type 1} → statement M
-end-of-spec = tie.close (tie.spec returns returns-2 returns-3 returns-4 returns-5)
+end-of-spec = tie.close (tie.spec returns returns-2 returns-3 returns-4 returns-5 returns-6)

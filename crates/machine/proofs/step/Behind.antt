@@ -2,6 +2,7 @@
 use Prim.Native.Nat.{ℕ, _+_, _*_, _-_, _≤_, _<_, max}
 use mathlib.Core.Bool.{Bool, true, false}
 use mathlib.Core.List.{List}
+use mathlib.Core.Option.{Option, none, some}
 use mathlib.Core.Path.{_≡_, refl, sym, ap, _∙_}
 use native.Mathlib.Omega.{arith}
 use lib.ListN.{set, drop}
@@ -10,6 +11,7 @@ use lib.Dec.{ltb, leb, eqb}
 use borrow.Author.Tests.{eqb-false, ltb-false, leb-false}
 use Rattle.meaning.specs.Choice.{pick}
 use Rattle.meaning.specs.Marks.{Mark, markOf}
+use Rattle.meaning.specs.Plain.{arithmetic}
 use Rattle.standing.specs.Bytes.{byteAt, markAt, arityIn, paramsIn, bodyIn}
 use Rattle.machine.specs.Layout.{Top, top, going, moved, ended, below, bound, laid, gathered, words, slotIn, nuOf, atOf, arOf, gvOf, tlOf, clOf, mkOf, conOf, openedOf, opOf}
 use Rattle.machine.specs.Needs.{NeedsAt, OpenNeeds, CallNeeds}
@@ -41,6 +43,16 @@ module _ (bytes decl store store′ : List ℕ) where
           let z = eqb-false (c .state .frame .depth) 0 e in
           let l : 0 < c .state .frame .depth = omega arith in
           bound-behind (below c) v (let d = n .0 .1 in omega arith) (n .1 l)
+
+  ariths : (c : Top) → NeedsAt Mark.AR bytes decl store c → behind (arOf bytes c) ≡ behind c
+  unfolding arOf
+  ariths c n =
+      go (arithmetic (byteAt bytes (c .state .frame .at + 2)) (slotIn bytes (c .work) (c .state .frame .depth * 32) (c .state .frame .at + 3))
+      (slotIn bytes (c .work) (c .state .frame .depth * 32) (c .state .frame .at + 4)))
+    where
+      go : (m : Option ℕ) → behind (elim m as (λ _. Top) [ none ↦ top (ended (c .state) 34 0) (c .work) | some v ↦ bound c v (c .state .frame .at + 5) ]) ≡ behind c
+      go none = refl
+      go (some v) = bound-behind c v (n .0 .1) (n .1)
 
   tails : (c : Top) → CallNeeds bytes decl c → behind (tlOf bytes decl c) ≡ behind c
   unfolding tlOf
@@ -121,7 +133,7 @@ module _ (bytes decl store store′ : List ℕ) where
       (λ _. k .0 (s .keeps .known), k .1 ∙ s .keeps .behind)
 
   node-kept : (k : Mark) (c c′ : Top) → NeedsAt k bytes decl store c → StepsAt k bytes decl store c store′ c′ → Kept c c′
-  unfolding nuOf atOf arOf mkOf
+  unfolding nuOf atOf mkOf
   node-kept Mark.GV c c′ n s = kept c c′ (ap behind (s .1) ∙ gives c n)
   node-kept Mark.AT c c′ n s = kept c c′ (ap behind (s .1) ∙ bound-behind c _ (n .0 .1) (n .1))
   node-kept Mark.MK c c′ n s = kept c c′ (ap behind (s .1) ∙ bound-behind c _ (n .0 .1) (n .1))
@@ -130,7 +142,7 @@ module _ (bytes decl store store′ : List ℕ) where
   node-kept Mark.OP c c′ n s = kept-open c c′ 1 (omega arith) n (s .1)
   node-kept Mark.LK c c′ n s = kept-open c c′ 0 (omega arith) n (s .1)
   node-kept Mark.NU c c′ n s = kept c c′ (ap behind (s .1) ∙ bound-behind c _ (n .0 .1) (n .1))
-  node-kept Mark.AR c c′ n s = kept c c′ (ap behind (s .1) ∙ bound-behind c _ (n .0 .1) (n .1))
+  node-kept Mark.AR c c′ n s = kept c c′ (ap behind (s .1) ∙ ariths c n)
   node-kept Mark.IF c c′ n s =
       let o = s .1 in
       let k = kept (top (c .state) (o .work)) c′ (ap behind (o .is)) in

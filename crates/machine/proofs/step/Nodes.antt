@@ -2,11 +2,12 @@
 use Prim.Native.Nat.{ℕ, zero, suc, _+_, _*_, _-_, _≤_, _<_, max}
 use mathlib.Core.List.{List, [], _∷_, _++_}
 use mathlib.Core.Bool.{false}
+use mathlib.Core.Option.{Option, none, some}
 use mathlib.Core.Path.{_≡_, refl, sym, ap, _∙_, subst}
 use native.Mathlib.Omega.{arith}
 use lib.ListN.{length}
 use borrow.Author.Tests.{eq-eqb, ne-eqb}
-use Rattle.machine.specs.Layout.{below, Top, top, going, moved, bound, words, slotIn, nuOf, atOf, arOf, gvOf}
+use Rattle.machine.specs.Layout.{below, Top, top, going, moved, ended, bound, words, slotIn, nuOf, atOf, arOf, gvOf}
 use Rattle.machine.specs.Represents.{Agrees, Represents, After}
 use Rattle.machine.specs.Steps.{StepsAt}
 use Rattle.machine.specs.Skips.{Skips}
@@ -85,8 +86,18 @@ module _ (file : File) (budget : ℕ) (bytes decl : List ℕ) where
       let b = steps-ok (take false Want.number y (p + 4) (a .0)) _ (a .2) in
       let u = number-slot x (p + 3) slots (a .0) (a .1) (ready .match) (r .words x) in
       let v = number-slot y (p + 4) (a .0) (b .0) (b .1) (rw (u .0) at (ready .match)) (r .words y) in
-      binds r (Held.number (arithmetic o (word (held hs x)) (word (held hs y)))) _ (c .state .frame .at + 5) l
-      (rw (r .here, r .depth, eo, ex, ey, u .1, v .1) refl) (rw (r .here) (sym q)) z m
+      let same : arithmetic (byteAt bytes (c .state .frame .at + 2)) (slotIn bytes (c .work) (c .state .frame .depth * 32) (c .state .frame .at + 3))
+      (slotIn bytes (c .work) (c .state .frame .depth * 32) (c .state .frame .at + 4)) ≡ arithmetic o (word (held hs x)) (word (held hs y)) =
+      rw (r .here, r .depth, eo, ex, ey, u .1, v .1) in
+      subst (λ k. After file bytes (c .state .most) store store (told k) (step file (state store (S.AR p o x y t) hs under))) (sym same)
+      (go (arithmetic o (word (held hs x)) (word (held hs y))))
+    where
+      told : Option ℕ → Top
+      told k = elim k as (λ _. Top) [ none ↦ top (ended (c .state) 34 0) (c .work) | some v ↦ bound c v (c .state .frame .at + 5) ]
+
+      go : (k : Option ℕ) → After file bytes (c .state .most) store store (told k) (elim k as (λ _. Step) [ none ↦ M.stuck 34 p | some n ↦ M.next (state store t (hs ++ (Held.number n ∷ [])) under) ])
+      go none = (refl, refl, refl, r .here, refl)
+      go (some n) = binds r (Held.number n) n (c .state .frame .at + 5) l refl (rw (r .here) (sym q)) z m
 
   value-word : (result : Sort) {store : Store} {A F : List ℕ} {h : Held} {v : Value} {w : ℕ} → Holds (file .constructors) store A (kind-owned result) h v F → Agrees h w → w ≡ word h
   value-word Sort.number g a = number-word g a

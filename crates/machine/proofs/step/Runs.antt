@@ -4,7 +4,6 @@ use mathlib.Core.Bool.{Bool, true, false}
 use mathlib.Core.List.{List, [], _∷_}
 use mathlib.Core.Option.{Option, none, some}
 use mathlib.Core.Path.{_≡_, refl, sym, ap, _∙_, subst}
-use mathlib.Core.Logic.{inl, inr}
 use native.Mathlib.Omega.{arith}
 use lib.ListN.{length}
 use lib.Dec.{ltb}
@@ -18,8 +17,8 @@ use Rattle.meaning.specs.Syntax.{Term, File}
 use Rattle.meaning.specs.Syntax as S
 use Rattle.meaning.specs.Machine.{Held, Frame, Store, State, Step, state, step, run, Answer, answers, word, held, constructor-of}
 use Rattle.meaning.specs.Machine as M
-use Rattle.meaning.specs.Plain.{place-of, branch}
-use Rattle.theory.proofs.Answered.{stuck-so}
+use Rattle.meaning.specs.Plain.{place-of, branch, arithmetic}
+use Rattle.theory.proofs.Answered.{stuck-within}
 use Rattle.meaning.specs.Choice.{pick}
 
 -- a step that ends without a value ends at its node's place
@@ -41,6 +40,10 @@ module _ (file : File) where
   branch-at none p f = refl
   branch-at (some t) p f = tt
 
+  arith-at : (o : Option ℕ) (p : ℕ) (f : ℕ → State) → Ends-at p (elim o as (λ _. Step) [ none ↦ M.stuck 34 p | some n ↦ M.next (f n) ])
+  arith-at none p f = refl
+  arith-at (some n) p f = tt
+
   ends-at : (t : Term) (hs : List Held) (store : Store) (under : List Frame) → Ends-at (place-of t) (step file (state store t hs under))
   unfolding step
   ends-at (S.GV p s) hs store [] = tt
@@ -52,7 +55,7 @@ module _ (file : File) where
   ends-at (S.OP p s bs) hs store under = branch-at (branch bs (constructor-of store (word (held hs s)))) p _
   ends-at (S.LK p s bs) hs store under = branch-at (branch bs (constructor-of store (word (held hs s)))) p _
   ends-at (S.NU p n t) hs store under = tt
-  ends-at (S.AR p o x y t) hs store under = tt
+  ends-at (S.AR p o x y t) hs store under = arith-at (arithmetic o (word (held hs x)) (word (held hs y))) p _
   ends-at (S.IF p s t u) hs store under = if-at p (word (held hs s)) _ _
 
 -- the state of a run that goes on, with so many steps left: the rest of the run is the whole run
@@ -71,7 +74,7 @@ module _ {bytes decl store store′ : List ℕ} {c c′ : Top} (g : Fit bytes de
       let q : suc n ≡ n + 1 = omega arith in
       (fit-next g s e, ap (λ r. elim r as (λ _. Answer) [ M.next st′ ↦ run (g .file) k st′ (suc n) (max (c .state .most) (suc (length (st′ .under)))) | M.finished v ↦ answers 0 v (suc n) 0 (c .state .most) (g .st .store) | M.stuck a p ↦ answers a 0 (suc n) p (c .state .most) (g .st .store) ]) e ∙ (λ i. run (g .file) k st (q i) (sym (a .2) i)))
   goes k n (M.finished v) e a z = let q = a .1 in absurd (omega arith)
-  goes k n (M.stuck x p) e a z = let q = a .1 in absurd (elim (stuck-so (g .file) (g .st) x p e) [ inl y ↦ omega arith | inr y ↦ omega arith ])
+  goes k n (M.stuck x p) e a z = let q = a .1 in absurd (omega (arith, stuck-within (g .file) (g .st) x p e .1))
 
   stops : (k n : ℕ) (r : Step) → step (g .file) (g .st) ≡ r → After (g .file) bytes (c .state .most) (g .st .store) store′ c′ r → (c′ .state .number ≡ 99 → ⊥)
       → run (g .file) (suc k) (g .st) n (c .state .most) ≡ answers (c′ .state .number) (c′ .state .value) (n + 1) (placeOf (c′ .state)) (c′ .state .most) store′
@@ -83,7 +86,7 @@ module _ {bytes decl store store′ : List ℕ} {c c′ : Top} (g : Fit bytes de
       ap (λ r. elim r as (λ _. Answer) [ M.next st′ ↦ run (g .file) k st′ (suc n) (max (c .state .most) (suc (length (st′ .under)))) | M.finished v ↦ answers 0 v (suc n) 0 (c .state .most) (g .st .store) | M.stuck a p ↦ answers a 0 (suc n) p (c .state .most) (g .st .store) ]) e ∙ (λ i. answers (sym (a .1) i) (sym (a .2) i) (q i) (sym w i) (sym (a .3) i) (sym (a .0) i))
   stops k n (M.stuck x p) e a z =
       let q : suc n ≡ n + 1 = omega arith in
-      let y : c′ .state .number ≡ 0 → ⊥ = λ w. elim (stuck-so (g .file) (g .st) x p e) [ inl u ↦ omega (arith, a .1, w, u) | inr u ↦ omega (arith, a .1, w, u) ] in
+      let y : c′ .state .number ≡ 0 → ⊥ = λ w. omega (arith, a .1, w, stuck-within (g .file) (g .st) x p e .0) in
       let w : placeOf (c′ .state) ≡ p = rw (ne-eqb (c′ .state .number) 0 y) (a .3) in
       ap (λ r. elim r as (λ _. Answer) [ M.next st′ ↦ run (g .file) k st′ (suc n) (max (c .state .most) (suc (length (st′ .under)))) | M.finished v ↦ answers 0 v (suc n) 0 (c .state .most) (g .st .store) | M.stuck a p ↦ answers a 0 (suc n) p (c .state .most) (g .st .store) ]) e ∙ (λ i. answers (sym (a .1) i) (sym (a .2) i) (q i) (sym w i) (sym (a .4) i) (sym (a .0) i))
 
@@ -95,7 +98,7 @@ module _ {bytes decl store store′ : List ℕ} {c c′ : Top} (g : Fit bytes de
       let w : placeOf (c′ .state) ≡ 0 = rw (eq-eqb (c′ .state .number) 0 (a .1)) in
       (omega (arith, w), omega (arith, a .3, g .high))
   small (M.stuck x p) e a z =
-      let y : c′ .state .number ≡ 0 → ⊥ = λ w. elim (stuck-so (g .file) (g .st) x p e) [ inl u ↦ omega (arith, a .1, w, u) | inr u ↦ omega (arith, a .1, w, u) ] in
+      let y : c′ .state .number ≡ 0 → ⊥ = λ w. omega (arith, a .1, w, stuck-within (g .file) (g .st) x p e .0) in
       let w : placeOf (c′ .state) ≡ c′ .state .frame .at = rw (ne-eqb (c′ .state .number) 0 y) in
       let q : p ≡ place-of (g .st .top .todo) = subst (λ r. Ends-at (place-of (g .st .top .todo)) r) e (ends-at (g .file) (g .st .top .todo) (g .st .top .slots) (g .st .store) (g .st .under)) in
       (omega (arith, w, a .3, q, g .represents .here, fit-mark g, g .declared .size), omega (arith, a .4, g .high))

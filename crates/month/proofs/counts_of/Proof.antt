@@ -10,10 +10,10 @@ use Rattle.month.specs.Month.{numbers, runsOf, count, countsOf}
 use Rattle.month.proofs.Counting.{partly, counts-start, counts-next, counts-done}
 
 abbrev Inv-loop : tie.InvT-loop
-Inv-loop runs counts₀ i₀ counts i = (i ≤ 21) × (length runs ≤ 12288) × (counts ≡ partly (λ n. count n (runsOf runs)) numbers i)
+Inv-loop runs counts₀ i₀ counts i = (i ≤ 22) × (length runs ≤ 12288) × (counts ≡ partly (λ n. count n (runsOf runs)) numbers i)
 
 abbrev μ-loop : tie.MeasureT-loop
-μ-loop runs counts₀ i₀ counts i = 21 - i
+μ-loop runs counts₀ i₀ counts i = 22 - i
 
 loop-holds : tie.Need-loop-holds Inv-loop μ-loop
 loop-holds c = (omega arith, c .before .pre, counts-start (λ n. count n (runsOf (c .before .args .runs .now))))

@@ -9,10 +9,10 @@ use Rattle.month.specs.Month.{numbers, among}
 use Rattle.month.proofs.Counting.{among-found, among-later, among-end}
 
 abbrev Inv-loop : tie.InvT-loop
-Inv-loop number i₀ i = (i ≤ 21) × (among number numbers ≡ among number (drop i numbers))
+Inv-loop number i₀ i = (i ≤ 22) × (among number numbers ≡ among number (drop i numbers))
 
 abbrev μ-loop : tie.MeasureT-loop
-μ-loop number i₀ i = 21 - i
+μ-loop number i₀ i = 22 - i
 
 loop-holds : tie.Need-loop-holds Inv-loop μ-loop
 loop-holds c = (omega arith, refl)

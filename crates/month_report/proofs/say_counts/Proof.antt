@@ -6,10 +6,10 @@ use native.Mathlib.Omega.{arith}
 use borrow.Author.Needs.{needs}
 
 abbrev Inv-loop : tie.InvT-loop
-Inv-loop counts i₀ i = i ≤ 21
+Inv-loop counts i₀ i = i ≤ 22
 
 abbrev μ-loop : tie.MeasureT-loop
-μ-loop counts i₀ i = 21 - i
+μ-loop counts i₀ i = 22 - i
 
 loop-holds : tie.Need-loop-holds Inv-loop μ-loop
 loop-holds c = omega arith
