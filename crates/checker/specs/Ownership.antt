@@ -107,23 +107,26 @@ module _ (bytes decl : List ℕ) (at : ℕ) (slots : List Slot) (bound : ℕ) wh
 unfoldable pub takesMany : (mark : ℕ) → Bool
 takesMany m = pick (eqb m 4) true (pick (eqb m 6) true (pick (eqb m 7) true (pick (eqb m 8) true false)))
 
--- where a record names its first slot
+-- where a record names its first slot, and AR its second
 unfoldable pub firstPlace : (mark at : ℕ) → ℕ
 firstPlace m at = pick (eqb m 13) (at + 3) (at + 2)
+
+unfoldable pub secondPlace : (mark at : ℕ) → ℕ
+secondPlace m at = pick (eqb m 13) (at + 4) (at + 2)
 
 module _ (bytes : List ℕ) where
   -- the slot that is named at a place, by its kind
   unfoldable pub namedOf : (place : ℕ) → Kind → Want → (bound : ℕ) → Taken
   namedOf p k w bound = pick (leb bound (byteAt bytes p)) (fault 7 p) (takeKind k (byteAt bytes p) p w false 0)
 
-  unfoldable pub twoOf : (place : ℕ) → (first second : Kind) → (bound : ℕ) → Taken
-  twoOf p a b bound = onFine (namedOf p a want.Number bound) (namedOf (p + 1) b want.Number bound)
+  unfoldable pub twoOf : (p q : ℕ) → (first second : Kind) → (bound : ℕ) → Taken
+  twoOf p q a b bound = onFine (namedOf p a want.Number bound) (namedOf q b want.Number bound)
 
-  unfoldable pub namesOf : (mark place : ℕ) → (first second : Kind) → (bound : ℕ) → Taken
-  namesOf m p a b bound =
+  unfoldable pub namesOf : (mark p q : ℕ) → (first second : Kind) → (bound : ℕ) → Taken
+  namesOf m p q a b bound =
       pick (eqb m 9) (namedOf p a want.Owned bound)
       (pick (eqb m 10) (namedOf p a want.Looked bound)
-      (pick (eqb m 13) (twoOf p a b bound)
+      (pick (eqb m 13) (twoOf p q a b bound)
       (pick (eqb m 14) (namedOf p a want.Number bound) (fine 0))))
 
 module _ (bytes decl : List ℕ) (at : ℕ) where

@@ -33,7 +33,7 @@ ghost use Rattle.meaning.specs.Choice.{pick};
 ghost use Rattle.meaning.specs.Marks.{findMark, rowAt};
 ghost use Rattle.standing.specs.Bytes.{byteAt, markAt, arityIn, fieldsIn, paramsIn, modesIn, bodyIn};
 ghost use Rattle.checker.specs.OwnershipBits.{bitsOf};
-ghost use Rattle.checker.specs.Ownership.{fine, fault, resultIn, takeKind, takeOf, barsOf, listOf, closeOf, makeOf, callOf, giveOf, tailOf, manyOf, takesMany, namedOf, twoOf, namesOf, firstPlace, kindBy, namedBy, thenOf, laidOf, creditsOf, branchOf};
+ghost use Rattle.checker.specs.Ownership.{fine, fault, resultIn, takeKind, takeOf, barsOf, listOf, closeOf, makeOf, callOf, giveOf, tailOf, manyOf, takesMany, namedOf, twoOf, namesOf, firstPlace, secondPlace, kindBy, namedBy, thenOf, laidOf, creditsOf, branchOf};
 ghost use Rattle.checker.specs.OwnershipReady.{Ready, Judged, ReadyAll, JudgedAll, ReadyBody, JudgedBody, ReadyFile, JudgedFile};
 
 // What a record takes: the slots that it spends, as bits; or, where the number is not 0, a fault and its place.
@@ -103,6 +103,14 @@ fn byte(file: &[u8], at: usize) -> usize
     0
 }
 
+// The byte at a place within the file.
+fn inside(file: &[u8], at: usize) -> usize
+    requires { ⌜ at < length (now file) ⌝ }
+    ensures { λ r. ⌜ (r ≡ byteAt (now (file .entry)) at) × (r < 256) ⌝ }
+{
+    wide(file[at])
+}
+
 // A word of the table of declarations, 0 past the end.
 fn word(decl: &[u32; 128], i: usize) -> usize
     requires { ⌜ length (now decl) ≡ 128 ⌝ }
@@ -116,10 +124,10 @@ fn word(decl: &[u32; 128], i: usize) -> usize
 
 // The place in the table of marks of the mark at a place.
 fn mark(file: &[u8], at: usize) -> usize
-    requires { ⌜ at ≤ 4096 ⌝ }
+    requires { ⌜ (at ≤ 4096) × (at + 1 < length (now file)) ⌝ }
     ensures { λ r. ⌜ r ≡ findMark (markAt (now (file .entry)) at) ⌝ }
 {
-    find_mark((byte(file, at) * 256 + byte(file, at + 1)) as u16)
+    find_mark((inside(file, at) * 256 + inside(file, at + 1)) as u16)
 }
 
 // A constructor's arity.
@@ -350,10 +358,10 @@ fn takes_many(m: usize) -> bool
 
 // The slot that is named at a place, by its kind.
 fn take_one(file: &[u8], place: usize, kind: Kind, want: Want, bound: usize) -> Taken
-    requires { ⌜ bound ≤ 32 ⌝ }
+    requires { ⌜ (bound ≤ 32) × (place < length (now file)) ⌝ }
     ensures { λ r. ⌜ r ≡ namedOf (now (file .entry)) place kind want bound ⌝ }
 {
-    let i = byte(file, place);
+    let i = inside(file, place);
     if bound <= i {
         return fault(7, place);
     }
@@ -361,27 +369,35 @@ fn take_one(file: &[u8], place: usize, kind: Kind, want: Want, bound: usize) -> 
 }
 
 // AR: two numbers, by their kinds.
-fn take_pair(file: &[u8], place: usize, first: Kind, second: Kind, bound: usize) -> Taken
-    requires { ⌜ (bound ≤ 32) × (place ≤ 4099) ⌝ }
-    ensures { λ r. ⌜ r ≡ twoOf (now (file .entry)) place first second bound ⌝ }
+fn take_pair(file: &[u8], p: usize, q: usize, first: Kind, second: Kind, bound: usize) -> Taken
+    requires { ⌜ (bound ≤ 32) × (p < length (now file)) × (q < length (now file)) ⌝ }
+    ensures { λ r. ⌜ r ≡ twoOf (now (file .entry)) p q first second bound ⌝ }
 {
-    let t = take_one(file, place, first, Want::Number, bound);
+    let t = take_one(file, p, first, Want::Number, bound);
     if t.number != 0 {
         return t;
     }
-    take_one(file, place + 1, second, Want::Number, bound)
+    take_one(file, q, second, Want::Number, bound)
 }
 
-// What the record of OP, LK, AR or IF takes, by the kinds of the slots that are named from a place on; no other takes so.
-fn take_named(file: &[u8], m: usize, place: usize, first: Kind, second: Kind, bound: usize) -> Taken
-    requires { ⌜ (bound ≤ 32) × (place ≤ 4099) ⌝ }
-    ensures { λ r. ⌜ r ≡ namesOf (now (file .entry)) m place first second bound ⌝ }
+// What the record of OP, LK, AR or IF takes, by the kinds of the slots that are named at two places; no other takes so.
+fn take_named(
+    file: &[u8],
+    m: usize,
+    p: usize,
+    q: usize,
+    first: Kind,
+    second: Kind,
+    bound: usize,
+) -> Taken
+    requires { ⌜ (bound ≤ 32) × (p < length (now file)) × (q < length (now file)) ⌝ }
+    ensures { λ r. ⌜ r ≡ namesOf (now (file .entry)) m p q first second bound ⌝ }
 {
     match m {
-        OP => take_one(file, place, first, Want::Owned, bound),
-        LK => take_one(file, place, first, Want::Looked, bound),
-        AR => take_pair(file, place, first, second, bound),
-        IF => take_one(file, place, first, Want::Number, bound),
+        OP => take_one(file, p, first, Want::Owned, bound),
+        LK => take_one(file, p, first, Want::Looked, bound),
+        AR => take_pair(file, p, q, first, second, bound),
+        IF => take_one(file, p, first, Want::Number, bound),
         _ => fine(0),
     }
 }
@@ -389,7 +405,7 @@ fn take_named(file: &[u8], m: usize, place: usize, first: Kind, second: Kind, bo
 // Where a record names its first slot.
 fn first_place(m: usize, at: usize) -> usize
     requires { ⌜ at ≤ 4096 ⌝ }
-    ensures { λ r. ⌜ (r ≡ firstPlace m at) × (r ≤ 4099) ⌝ }
+    ensures { λ r. ⌜ r ≡ firstPlace m at ⌝ }
 {
     if m == AR {
         return at + 3;
@@ -397,11 +413,23 @@ fn first_place(m: usize, at: usize) -> usize
     at + 2
 }
 
+// Where AR names its second slot; of another record, where it names its first.
+fn second_place(m: usize, at: usize) -> usize
+    requires { ⌜ at ≤ 4096 ⌝ }
+    ensures { λ r. ⌜ r ≡ secondPlace m at ⌝ }
+{
+    if m == AR {
+        return at + 4;
+    }
+    at + 2
+}
+
 // The slot that is named at a place, as an index of the array.
 fn slot_index(file: &[u8], at: usize) -> usize
+    requires { ⌜ at < length (now file) ⌝ }
     ensures { λ r. ⌜ (r ≡ byteAt (now (file .entry)) at % 32) × (r < 32) ⌝ }
 {
-    byte(file, at) % 32
+    inside(file, at) % 32
 }
 
 // The kind of slot that a node binds, if it binds one.
@@ -545,14 +573,15 @@ fn check_term(
 {
     let m = mark(file, at);
     let p = first_place(m, at);
+    let q = second_place(m, at);
     let i = slot_index(file, p);
-    let j = slot_index(file, p + 1);
+    let j = slot_index(file, q);
     let mut inner = slots;
     let one = inner[i];
     let two = inner[j];
     let first = one.kind;
     let second = two.kind;
-    let mut t = take_named(file, m, p, first, second, bound);
+    let mut t = take_named(file, m, p, q, first, second, bound);
     if takes_many(m) {
         t = take_many(file, decl, at, m, result, inner, bound);
     }

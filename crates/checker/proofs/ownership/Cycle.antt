@@ -3,13 +3,14 @@
 use Prim.Native.Nat.{ℕ, _+_, _≤_, _<_}
 use mathlib.Core.Path.{_≡_, refl, sym, ap, _∙_, subst}
 use mathlib.Core.List.{List, [], _∷_}
-use mathlib.Core.Bool.{true, false}
+use mathlib.Core.Bool.{Bool, true, false}
 use native.Mathlib.Omega.{arith}
 use lib.ListN.{length}
 use lib.Dec.{eqb}
 use borrow.Author.Tests.{eq-eqb, ne-eqb}
 use Rattle.meaning.specs.declared.Slot.{Slot}
-use Rattle.meaning.specs.Marks.{findMark, rowAt}
+use Rattle.meaning.specs.Choice.{pick}
+use Rattle.meaning.specs.Marks.{findMark, markOf, numberOf, rowAt}
 use Rattle.meaning.specs.Syntax.{Term, Branches, Constructor, File}
 use Rattle.meaning.specs.Plain.{place-of}
 use Rattle.meaning.specs.Outcome.{Outcome, ok, refuse, then}
@@ -23,7 +24,7 @@ use Rattle.checker.specs.declared.ownership.Then.the-variants.{Leaf, One
 use Rattle.checker.specs.declared.ownership.Checked.{Checked}
 use Rattle.checker.specs.declared.ownership.Checked.the-variants.{Next, Fault}
 use Rattle.checker.specs.Slots.{slotsOf, keptOf}
-use Rattle.checker.specs.Ownership.{takenOf, kindBy, thenOf}
+use Rattle.checker.specs.Ownership.{takenOf, firstPlace, secondPlace, kindBy, thenOf}
 use Rattle.checker.specs.OwnershipReady.{spanned, Ready, Judged, ReadyAll, JudgedAll}
 use Rattle.checker.proofs.ownership.Taking.{alike-none}
 use Rattle.checker.proofs.ownership.Nodes.{Goes, node}
@@ -53,6 +54,39 @@ ready-low g =
     let s = g .declared .size in
     let h = g .here in
     (omega arith, omega arith)
+
+-- the slots that a record names, one or two, lie within the file
+named-in : (m k p n : ℕ) → m ≡ k → secondPlace k p < n → secondPlace m p < n
+named-in m k p n e h = rw e h
+
+stands-named : {file : File} {bytes : List ℕ} {slots : ℕ} {t : Term} {next : ℕ} → Stands file bytes slots t next
+    → secondPlace (findMark (markAt bytes (place-of t))) (place-of t) < length bytes
+unfolding findMark markOf numberOf secondPlace pick
+stands-named {bytes = bytes} (stands.GV {p = p} m l e n) = let h : p + 2 < length bytes = omega arith in named-in (findMark (markAt bytes p)) 4 p (length bytes) (rw m) h
+stands-named {bytes = bytes} (stands.AT {p = p} m l e h q s) = let h : p + 2 < length bytes = omega arith in named-in (findMark (markAt bytes p)) 5 p (length bytes) (rw m) h
+stands-named {bytes = bytes} (stands.MK {p = p} m l ec ek ls lc n h q s) = let h : p + 2 < length bytes = omega arith in named-in (findMark (markAt bytes p)) 6 p (length bytes) (rw m) h
+stands-named {bytes = bytes} (stands.CL {p = p} m l e ls lf n h q s) = let h : p + 2 < length bytes = omega arith in named-in (findMark (markAt bytes p)) 7 p (length bytes) (rw m) h
+stands-named {bytes = bytes} (stands.TL {p = p} m l e ls lf n q) = let h : p + 2 < length bytes = omega arith in named-in (findMark (markAt bytes p)) 8 p (length bytes) (rw m) h
+stands-named {bytes = bytes} (stands.OP {p = p} m l e n each) = let h : p + 2 < length bytes = omega arith in named-in (findMark (markAt bytes p)) 9 p (length bytes) (rw m) h
+stands-named {bytes = bytes} (stands.LK {p = p} m l e n each) = let h : p + 2 < length bytes = omega arith in named-in (findMark (markAt bytes p)) 10 p (length bytes) (rw m) h
+stands-named {bytes = bytes} (stands.NU {p = p} m l e h q s) = let h : p + 2 < length bytes = omega arith in named-in (findMark (markAt bytes p)) 12 p (length bytes) (rw m) h
+stands-named {bytes = bytes} (stands.AR {p = p} m l eo ex ey h q s) = let h : p + 4 < length bytes = omega arith in named-in (findMark (markAt bytes p)) 13 p (length bytes) (rw m) h
+stands-named {bytes = bytes} (stands.IF {p = p} m l e pt st pu su) = let h : p + 2 < length bytes = omega arith in named-in (findMark (markAt bytes p)) 14 p (length bytes) (rw m) h
+
+first-low : (m at : ℕ) → firstPlace m at ≤ secondPlace m at
+unfolding firstPlace secondPlace pick
+first-low m at = go (eqb m 13)
+  where
+    go : (b : Bool) → pick b (at + 3) (at + 2) ≤ pick b (at + 4) (at + 2)
+    go true = omega arith
+    go false = omega arith
+
+pub ready-named : {bytes decl : List ℕ} {at result bound m p q : ℕ} → Ready bytes decl at result bound → m ≡ findMark (markAt bytes at) → p ≡ firstPlace m at → q ≡ secondPlace m at
+    → (p < length bytes) × (q < length bytes)
+ready-named {bytes} {at = at} {m = m} g em ep eq =
+    let l = first-low m at in
+    let h : secondPlace m at < length bytes = rw (em, ← (g .here)) (stands-named (g .stands)) in
+    (omega (arith, ep, l, h), omega (arith, eq, h))
 
 -- what an answer says of the check
 pub spanned-next : (n k : ℕ) (o : Outcome (Unit {0})) → Next k ≡ spanned n o → (o ≡ ok tt) × (k ≡ n)

@@ -16,7 +16,7 @@ use Rattle.checker.specs.declared.slots.Want.{Want}
 use Rattle.checker.specs.declared.slots.Want.the-variants as want
 use Rattle.checker.specs.declared.ownership.Taken.{Taken}
 use Rattle.checker.specs.Slots.{unbound}
-use Rattle.checker.specs.Ownership.{fine, fault, onFine, takeKind, takeOf, pairOf, takenOf, manyOf, takesMany, firstPlace, namedOf, twoOf, namesOf}
+use Rattle.checker.specs.Ownership.{fine, fault, onFine, takeKind, takeOf, pairOf, takenOf, manyOf, takesMany, firstPlace, secondPlace, namedOf, twoOf, namesOf}
 
 -- ---- a list, or the closing of the path
 many-same : (b c d e : Bool) (g h i j x y : Taken) → pick b true (pick c true (pick d true (pick e true false))) ≡ true
@@ -57,42 +57,37 @@ module _ (bytes decl : List ℕ) (at : ℕ) (slots : List Slot) (bound : ℕ) (f
           let q : i ≡ byteAt bytes p = omega arith in
           ap (λ z. takeKind z (byteAt bytes p) p w false 0) (ek ∙ ap (λ z. getD slots z unbound .kind) q)
 
-  -- what is to be shown of a mark, for the place of its record's first slot
-  abbrev Names : (mark place : ℕ) → Type 0
-  Names x p = (i j : ℕ) (a b : Kind) → i ≡ byteAt bytes p % 32 → a ≡ getD slots i unbound .kind
-      → j ≡ byteAt bytes (p + 1) % 32 → b ≡ getD slots j unbound .kind
-      → namesOf bytes x p a b bound ≡ takenOf bytes decl at slots bound x result
-
+  -- what is to be shown of a mark, for the places of its record's slots
   abbrev Named : (mark : ℕ) → Type 0
-  Named x = (p : ℕ) → p ≡ firstPlace x at → Names x p
+  Named x = (p q : ℕ) → p ≡ firstPlace x at → q ≡ secondPlace x at → (i j : ℕ) (a b : Kind) → i ≡ byteAt bytes p % 32 → a ≡ getD slots i unbound .kind
+      → j ≡ byteAt bytes q % 32 → b ≡ getD slots j unbound .kind → namesOf bytes x p q a b bound ≡ takenOf bytes decl at slots bound x result
 
   abbrev taken-at : Want → ℕ → Taken
   taken-at w p = takeOf slots bound (byteAt bytes p) p w false 0
 
   names-OP : Named 9
   unfolding namesOf firstPlace takenOf pick
-  names-OP p e i j a b ei ea ej eb = named-takes p i a want.Owned ei ea ∙ ap (taken-at want.Owned) e
+  names-OP p q ep eq i j a b ei ea ej eb = named-takes p i a want.Owned ei ea ∙ ap (taken-at want.Owned) ep
 
   names-LK : Named 10
   unfolding namesOf firstPlace takenOf pick
-  names-LK p e i j a b ei ea ej eb = named-takes p i a want.Looked ei ea ∙ ap (taken-at want.Looked) e
+  names-LK p q ep eq i j a b ei ea ej eb = named-takes p i a want.Looked ei ea ∙ ap (taken-at want.Looked) ep
 
   names-AR : Named 13
-  unfolding namesOf firstPlace takenOf pick twoOf pairOf
-  names-AR p e i j a b ei ea ej eb =
-      let q : p + 1 ≡ at + 4 = omega arith in
-      ap₂ onFine (named-takes p i a want.Number ei ea ∙ ap (taken-at want.Number) e) (named-takes (p + 1) j b want.Number ej eb ∙ ap (taken-at want.Number) q)
+  unfolding namesOf firstPlace secondPlace takenOf pick twoOf pairOf
+  names-AR p q ep eq i j a b ei ea ej eb =
+      ap₂ onFine (named-takes p i a want.Number ei ea ∙ ap (taken-at want.Number) ep) (named-takes q j b want.Number ej eb ∙ ap (taken-at want.Number) eq)
 
   names-IF : Named 14
   unfolding namesOf firstPlace takenOf pick
-  names-IF p e i j a b ei ea ej eb = named-takes p i a want.Number ei ea ∙ ap (taken-at want.Number) e
+  names-IF p q ep eq i j a b ei ea ej eb = named-takes p i a want.Number ei ea ∙ ap (taken-at want.Number) ep
 
   module _ (m : ℕ) (few-not : takesMany m ≡ false) where
     names-none : eqb m 9 ≡ false → eqb m 10 ≡ false → eqb m 13 ≡ false → eqb m 14 ≡ false → Named m
     unfolding takesMany namesOf takenOf pick
-    names-none e9 e10 e13 e14 p e i j a b ei ea ej eb =
-        let q = many-not (eqb m 4) (eqb m 6) (eqb m 7) (eqb m 8) few-not in
-        rw (q .0, q .1, q .2, q .3, e9, e10, e13, e14)
+    names-none e9 e10 e13 e14 p q ep eq i j a b ei ea ej eb =
+        let n = many-not (eqb m 4) (eqb m 6) (eqb m 7) (eqb m 8) few-not in
+        rw (n .0, n .1, n .2, n .3, e9, e10, e13, e14)
 
     pub names-taken : Named m
     names-taken = go (eqb m 9) (eqb m 10) (eqb m 13) (eqb m 14) refl refl refl refl

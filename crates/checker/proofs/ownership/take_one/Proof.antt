@@ -6,23 +6,23 @@ use borrow.Author.Tests.{le-leb, lt-leb}
 use Rattle.meaning.specs.Choice.{pick}
 use Rattle.checker.specs.Ownership.{namedOf}
 
-byte-requires : tie.Need-byte-requires
-byte-requires c κs = search needs
+inside-requires : tie.Need-inside-requires
+inside-requires c κs = search needs
 
 fault-requires : tie.Need-fault-requires
 fault-requires c κs = search needs
 
 returns : tie.Need-returns
 unfolding namedOf pick
-returns c = rw (← (c .before .before .byte .ensures .0), le-leb _ _ (c .before .if1 .taken)) (c .fault .ensures)
+returns c = rw (← (c .before .before .inside .ensures .0), le-leb _ _ (c .before .if1 .taken)) (c .fault .ensures)
 
 take-kind-requires : tie.Need-take-kind-requires
 take-kind-requires c κs = search needs
 
 returns-2 : tie.Need-returns-2
 unfolding namedOf pick
-returns-2 c = rw (← (c .before .before .byte .ensures .0), lt-leb _ _ (c .before .if1 .left)) (c .take-kind .ensures)
+returns-2 c = rw (← (c .before .before .inside .ensures .0), lt-leb _ _ (c .before .if1 .left)) (c .take-kind .ensures)
 
 pub take-one-spec : {M : Type 1} → statement M
 take-one-spec =
-    tie.close (tie.spec byte-requires fault-requires returns take-kind-requires returns-2)
+    tie.close (tie.spec inside-requires fault-requires returns take-kind-requires returns-2)

@@ -12,9 +12,6 @@ returns : tie.Need-returns
 unfolding twoOf
 returns c = on-stops _ _ _ (c .before .before .take-one .ensures) (c .if1 .taken)
 
-add-take-one : tie.Need-add-take-one
-add-take-one c = search needs
-
 take-one-requires-2 : tie.Need-take-one-requires-2
 take-one-requires-2 c κs = search needs
 
@@ -24,4 +21,4 @@ returns-2 c = on-fine _ _ _ _ (c .before .before .before .take-one .ensures) (c 
 
 pub take-pair-spec : {M : Type 1} → statement M
 take-pair-spec =
-    tie.close (tie.spec take-one-requires returns add-take-one take-one-requires-2 returns-2)
+    tie.close (tie.spec take-one-requires returns take-one-requires-2 returns-2)
