@@ -1,4 +1,5 @@
-// The ownership check: answers 7 to 12, on a file that was read. It goes down a term by calling itself on what follows.
+// The ownership check: answers 7 to 12, on a file that was read. It goes along a row of nodes in a loop, and down a term by calling itself on what
+// follows the row.
 use crate::slots::Want;
 use crate::slots::current;
 use crate::slots::fresh_slots;
@@ -33,8 +34,8 @@ ghost use Rattle.meaning.specs.Choice.{pick};
 ghost use Rattle.meaning.specs.Marks.{findMark, rowAt};
 ghost use Rattle.standing.specs.Bytes.{byteAt, markAt, arityIn, fieldsIn, paramsIn, modesIn, bodyIn};
 ghost use Rattle.checker.specs.OwnershipBits.{bitsOf};
-ghost use Rattle.checker.specs.Ownership.{fine, fault, resultIn, takeKind, takeOf, barsOf, listOf, closeOf, makeOf, callOf, giveOf, tailOf, manyOf, takesMany, namedOf, twoOf, namesOf, firstPlace, secondPlace, kindBy, namedBy, thenOf, laidOf, creditsOf, branchOf};
-ghost use Rattle.checker.specs.OwnershipReady.{Ready, Judged, ReadyAll, JudgedAll, ReadyBody, JudgedBody, ReadyFile, JudgedFile};
+ghost use Rattle.checker.specs.Ownership.{fine, fault, resultIn, takeKind, takeOf, barsOf, listOf, closeOf, makeOf, callOf, giveOf, tailOf, manyOf, takesMany, namedOf, twoOf, namesOf, firstPlace, secondPlace, kindBy, namedBy, thenOf, laidOf, creditsOf, branchOf, rowOf};
+ghost use Rattle.checker.specs.OwnershipReady.{Ready, Judged, InRow, ReadyAll, JudgedAll, ReadyBody, JudgedBody, ReadyFile, JudgedFile};
 
 // What a record takes: the slots that it spends, as bits; or, where the number is not 0, a fault and its place.
 pub struct Taken {
@@ -49,6 +50,15 @@ pub enum Then {
     One(usize),
     Two(usize),
     Many(usize, usize, usize),
+}
+
+// Where a row of nodes ends: what follows its last node, and the slots there; or, where the number is not 0, a fault and its place.
+pub struct Row {
+    pub number: u32,
+    pub place: usize,
+    pub then: Then,
+    pub slots: [Slot; 32],
+    pub bound: usize,
 }
 
 // Where a term that was checked ends, or the refusal's number and place.
@@ -559,6 +569,79 @@ fn seeing(seen: u64, c: usize) -> u64
     seen | (1 << (c as u64))
 }
 
+// Where a row of nodes ends, from what its last node takes.
+fn row_of(t: Taken, then: Then, slots: [Slot; 32], bound: usize) -> Row
+    ensures { λ r. ⌜ r ≡ rowOf t then slots bound ⌝ }
+{
+    Row {
+        number: t.number,
+        place: t.place,
+        then: then,
+        slots: slots,
+        bound: bound,
+    }
+}
+
+// Up to sixteen nodes from a place on, each followed by the next alone; the last is followed by anything.
+fn check_row(
+    file: &[u8],
+    decl: &[u32; 128],
+    start: usize,
+    result: usize,
+    slots: [Slot; 32],
+    have: usize,
+) -> Row
+    requires { ⌜ Ready (now file) (now decl) start result have ⌝ }
+    ensures { λ r. ⌜ InRow (now (file .entry)) (now (decl .entry)) start result slots have r ⌝ }
+{
+    let mut inner = slots;
+    let mut at = start;
+    let mut bound = have;
+    let mut k: usize = 0;
+    while k < 16 {
+        let m = mark(file, at);
+        let p = first_place(m, at);
+        let q = second_place(m, at);
+        let i = slot_index(file, p);
+        let j = slot_index(file, q);
+        let one = inner[i];
+        let two = inner[j];
+        let first = one.kind;
+        let second = two.kind;
+        let mut t = take_named(file, m, p, q, first, second, bound);
+        if takes_many(m) {
+            t = take_many(file, decl, at, m, result, inner, bound);
+        }
+        if t.number != 0 {
+            return row_of(t, Then::Leaf(at), inner, bound);
+        }
+        if t.spent != 0 {
+            let left = spend(inner, t.spent);
+            inner = left;
+        }
+        let more = bound + binds(m);
+        if bound < more {
+            let kind = bound_kind(file, decl, at, m);
+            inner[bound] = Slot {
+                kind,
+                place: at as u16,
+            };
+        }
+        let then = follows(file, decl, at, m);
+        match then {
+            Then::One(next) => {
+                at = next;
+                bound = more;
+                k += 1;
+            }
+            _ => {
+                return row_of(t, then, inner, more);
+            }
+        }
+    }
+    row_of(fine(0), Then::One(at), inner, bound)
+}
+
 // The term at a place, with so many slots bound.
 fn check_term(
     file: &[u8],
@@ -571,36 +654,13 @@ fn check_term(
     requires { ⌜ Ready (now file) (now decl) at result bound ⌝ }
     ensures { λ r. ⌜ Judged (now (file .entry)) (now (decl .entry)) at result slots bound r ⌝ }
 {
-    let m = mark(file, at);
-    let p = first_place(m, at);
-    let q = second_place(m, at);
-    let i = slot_index(file, p);
-    let j = slot_index(file, q);
-    let mut inner = slots;
-    let one = inner[i];
-    let two = inner[j];
-    let first = one.kind;
-    let second = two.kind;
-    let mut t = take_named(file, m, p, q, first, second, bound);
-    if takes_many(m) {
-        t = take_many(file, decl, at, m, result, inner, bound);
+    let row = check_row(file, decl, at, result, slots, bound);
+    if row.number != 0 {
+        return Checked::Fault(row.number, row.place);
     }
-    if t.number != 0 {
-        return Checked::Fault(t.number, t.place);
-    }
-    if t.spent != 0 {
-        let left = spend(inner, t.spent);
-        inner = left;
-    }
-    let more = bound + binds(m);
-    if bound < more {
-        let kind = bound_kind(file, decl, at, m);
-        inner[bound] = Slot {
-            kind,
-            place: at as u16,
-        };
-    }
-    let then = follows(file, decl, at, m);
+    let then = row.then;
+    let inner = row.slots;
+    let more = row.bound;
     match then {
         Then::Leaf(next) => Checked::Next(next),
         Then::One(next) => check_term(file, decl, next, result, inner, more),

@@ -21,11 +21,12 @@ use Rattle.standing.specs.Stands as stands
 use Rattle.checker.specs.declared.ownership.Taken.{Taken}
 use Rattle.checker.specs.declared.ownership.Then.{Then}
 use Rattle.checker.specs.declared.ownership.Then.the-variants.{Leaf, One, Two, Many}
+use Rattle.checker.specs.declared.ownership.Row.{Row}
 use Rattle.checker.specs.declared.ownership.Checked.{Checked}
 use Rattle.checker.specs.declared.ownership.Checked.the-variants.{Next, Fault}
 use Rattle.checker.specs.Slots.{slotsOf, keptOf}
-use Rattle.checker.specs.Ownership.{takenOf, firstPlace, secondPlace, kindBy, thenOf}
-use Rattle.checker.specs.OwnershipReady.{spanned, Ready, Judged, ReadyAll, JudgedAll}
+use Rattle.checker.specs.Ownership.{rowOf, takenOf, firstPlace, secondPlace, kindBy, thenOf}
+use Rattle.checker.specs.OwnershipReady.{spanned, Ready, Judged, Made, Behind, InRow, ReadyAll, JudgedAll}
 use Rattle.checker.proofs.ownership.Taking.{alike-none}
 use Rattle.checker.proofs.ownership.Nodes.{Goes, node}
 
@@ -100,16 +101,6 @@ spanned-fault n a b (ok u) e = let z : _≡_ {A = ℕ} 0 1 = cc in absurd (omega
 spanned-fault n a b (refuse x y) e = let p : x ≡ a = cc in let q : y ≡ b = cc in rw (p, q)
 
 -- ---- a node of a term
-
--- what the code has made of a node whose record was taken
-pub record Made (bytes decl : List ℕ) (at result : ℕ) (slots : List Slot) (bound m : ℕ) (t : Taken) (more : ℕ) (inner : List Slot) (f : Then) : Type 0 where
-  pub wide : length slots ≡ 32
-  pub mark : m ≡ findMark (markAt bytes at)
-  pub taken : t ≡ takenOf bytes decl at slots bound m result
-  pub fine : t .number ≡ 0
-  pub count : more ≡ bound + rowAt m .binds
-  pub kept : inner ≡ keptOf slots (t .spent) bound more (kindBy bytes decl at m) at
-  pub follows : f ≡ thenOf bytes decl at m
 
 module _ (bytes decl : List ℕ) (at result : ℕ) (slots : List Slot) (wide : length slots ≡ 32) (bound : ℕ) where
   abbrev Follow : Ready bytes decl at result bound → Then → ℕ → List Slot → Type 0
@@ -300,3 +291,28 @@ made {bound = bound} wide em et n eb ei ef = record {
   kept = ei;
   follows = ef;
 }
+
+-- ---- a row of nodes
+module _ {bytes decl : List ℕ} {at result : ℕ} {slots : List Slot} {bound : ℕ} where
+  pub behind : {place have m more : ℕ} {left inner : List Slot} {t : Taken} {f h : Then} → at ≤ place → Ready bytes decl place result have
+      → Made bytes decl place result left have m t more inner f → f ≡ h
+      → ((r : Checked) → Judged bytes decl place result left have r → Judged bytes decl at result slots bound r) → Behind bytes decl at result slots bound more inner h
+  behind {place} {have} {m} {more} {left} {inner} {t} l g w e s = record {
+    place = place;
+    left = left;
+    have = have;
+    mark = m;
+    took = t;
+    later = l;
+    ready = g;
+    made = subst (λ x. Made bytes decl place result left have m t more inner x) e w;
+    same = s;
+  }
+
+  pub row-stops : (t : Taken) {r : Row} {f : Then} {left : List Slot} {have : ℕ} → r ≡ rowOf t f left have → (t .number ≡ 0 → ⊥)
+      → Judged bytes decl at result slots bound (Fault (t .number) (t .place)) → InRow bytes decl at result slots bound r
+  row-stops t e n j = subst (λ x. InRow bytes decl at result slots bound x) (sym e) (record { stops = λ _. j; goes = λ z. absurd (n z) })
+
+  pub row-ends : (t : Taken) {r : Row} {f : Then} {inner : List Slot} {more : ℕ} → r ≡ rowOf t f inner more → t .number ≡ 0
+      → Behind bytes decl at result slots bound more inner f → InRow bytes decl at result slots bound r
+  row-ends t e z b = subst (λ x. InRow bytes decl at result slots bound x) (sym e) (record { stops = λ n. absurd (n z); goes = λ _. b })

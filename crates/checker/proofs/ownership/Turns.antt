@@ -5,7 +5,7 @@ use mathlib.Core.List.{List, [], _∷_}
 use mathlib.Core.Bool.{Bool, true, false, _||_}
 use native.Mathlib.Omega.{arith}
 use native.Mathlib.Numerals.{add-one}
-use lib.ListN.{length, set, getD, drop, drop-of-length-le}
+use lib.ListN.{length, set, getD, drop, drop-of-length-le, length-set}
 use lib.Dec.{leb, ltb, eqb}
 use lib.Bits.{bitOr}
 use borrow.Author.Tests.{le-leb, lt-leb, lt-ltb, le-ltb, eq-eqb, ne-eqb}
@@ -24,7 +24,7 @@ use Rattle.checker.specs.OwnershipBits.{bitsOf}
 use Rattle.checker.specs.Slots.{kindOf, usedIn, slotOf, slotsOf, usedKind, nowKind, spentBy, unbound, bound-slot, wantOf, spendsOf, testOf, wantAt, kindAt, keptOf}
 use Rattle.checker.specs.Ownership.{fine, fault, onFine, takeKind, takeOf, barsOf, listOf, closeOf, namedBy, pastOf, laidOf, creditsOf, branchOf}
 use Rattle.checker.proofs.ownership.Bits.{bits-none, bits-length}
-use Rattle.checker.proofs.ownership.Spending.{slots-length, spent-none, spent-first, spent-at}
+use Rattle.checker.proofs.ownership.Spending.{slots-length, spent-length, spent-none, spent-first, spent-at}
 
 -- ---- a slot's test
 module _ (k : Kind) (w : Want) (barred : Bool) where
@@ -163,6 +163,14 @@ pub kept-all : (slots out : List Slot) (spent bound more : ℕ) (k : Kind) (at :
     → out ≡ keptOf slots spent bound more k at
 unfolding keptOf pick
 kept-all slots out spent bound more k at e l = let q : ltb bound more ≡ false = le-ltb bound more l in rw (q, e)
+
+pub kept-wide : (slots out : List Slot) (spent bound more : ℕ) (k : Kind) (at : ℕ) → out ≡ keptOf slots spent bound more k at → length slots ≡ 32 → length out ≡ 32
+unfolding keptOf pick
+kept-wide slots out spent bound more k at e w = ap length e ∙ go (ltb bound more) ∙ w
+  where
+    go : (b : Bool) → length (pick b (set (spentBy (bitsOf 32 spent) slots) bound (bound-slot k at)) (spentBy (bitsOf 32 spent) slots)) ≡ length slots
+    go true = length-set (spentBy (bitsOf 32 spent) slots) bound (bound-slot k at) ∙ spent-length (bitsOf 32 spent) slots
+    go false = spent-length (bitsOf 32 spent) slots
 
 -- ---- what is left over
 drop-slots : (n : ℕ) (xs : List Slot) (i : ℕ) → i < n → drop i (slotsOf n xs) ≡ slotOf (getD xs i unbound) ∷ drop (suc i) (slotsOf n xs)

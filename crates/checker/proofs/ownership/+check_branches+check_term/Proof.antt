@@ -9,36 +9,21 @@ use Rattle.checker.proofs.ownership.check_term.Reads as check-term
 use Rattle.checker.proofs.ownership.check_term.Kinds as check-term-kinds
 use Rattle.checker.proofs.ownership.+check_branches+check_term.Lts-check_term as check-term-lts
 use Rattle.checker.proofs.ownership.arity.Reads as arity-reads
-use Rattle.checker.proofs.ownership.binds.Reads as binds-reads
-use Rattle.checker.proofs.ownership.bound_kind.Reads as bound-kind-reads
 use Rattle.checker.proofs.ownership.branch_slots.Reads as branch-slots-reads
 use Rattle.checker.proofs.ownership.byte.Reads as byte-reads
+use Rattle.checker.proofs.ownership.check_row.Reads as check-row-reads
 use Rattle.checker.proofs.ownership.credits.Reads as credits-reads
-use Rattle.checker.proofs.ownership.follows.Reads as follows-reads
-use Rattle.checker.proofs.ownership.mark.Reads as mark-reads
-use Rattle.checker.proofs.ownership.second_place.Reads as second-place-reads
 use Rattle.checker.proofs.ownership.seeing.Reads as seeing-reads
 use Rattle.checker.proofs.ownership.sees.Reads as sees-reads
-use Rattle.checker.proofs.ownership.first_place.Reads as first-place-reads
-use Rattle.checker.proofs.ownership.slot_index.Reads as slot-index-reads
-use Rattle.checker.proofs.ownership.take_many.Reads as take-many-reads
-use Rattle.checker.proofs.ownership.take_named.Reads as take-named-reads
-use Rattle.checker.proofs.ownership.takes_many.Reads as takes-many-reads
-use Rattle.checker.proofs.slots.spend.Reads as spend-reads
 use Rattle.checker.proofs.ownership.+check_branches+check_term.{statement}
 use Rattle.checker.proofs.ownership.+check_branches+check_term.Tie.{close}
 use native.Mathlib.Omega.{arith}
 use borrow.Author.Needs.{needs}
 use Prim.Native.Nat.{_-_, _+_}
-use mathlib.Core.Path.{_≡_, refl, sym, ap, _∙_}
-use mathlib.Core.Logic.{⊎-elim}
+use mathlib.Core.Path.{sym, _∙_}
 use lib.ListN.{length}
 use Rattle.checker.specs.OwnershipBits.{bitsOf}
-use Rattle.checker.specs.Slots.{spentBy, keptOf}
-use Rattle.checker.specs.Ownership.{takenOf, kindBy}
-use Rattle.checker.proofs.ownership.Naming.{many-taken, names-taken}
-use Rattle.checker.proofs.ownership.Turns.{kept-none, kept-bound, kept-all}
-use Rattle.checker.proofs.ownership.Cycle.{ready-low, ready-named, node-room, node-stops, Made, made, leaf-judged, one-ready, one-less, one-judged, two-ready, two-less, two-stops, second-ready, second-less, two-judged, many-ready, many-less, many-judged}
+use Rattle.checker.proofs.ownership.Cycle.{ready-low, leaf-judged, one-ready, one-less, one-judged, two-ready, two-less, two-stops, second-ready, second-less, two-judged, many-ready, many-less, many-judged}
 use Rattle.checker.proofs.ownership.Branching.{end-judged, branch-low, branch-twice, Opened, more-fits, term-ready, branch-stops, rest-ready, rest-less, branch-judged}
 
 abbrev μ-check-branches : Measures 2 check-branches-kinds.ps ℕ
@@ -75,41 +60,7 @@ abbrev check-branches-calls : ℕ → check-branches-lts.Claims
 check-branches-calls t = (byte-reads.Asked, byte-reads.Learnt, sees-reads.Asked, sees-reads.Learnt, arity-reads.Asked, arity-reads.Learnt, branch-slots-reads.Asked, branch-slots-reads.Learnt, credits-reads.Asked, credits-reads.Learnt, check-term-below t, check-term.Post, seeing-reads.Asked, seeing-reads.Learnt, check-branches-below t, check-branches.Post)
 
 abbrev check-term-calls : ℕ → check-term-lts.Claims
-check-term-calls t = (mark-reads.Asked, mark-reads.Learnt, first-place-reads.Asked, first-place-reads.Learnt, second-place-reads.Asked, second-place-reads.Learnt, slot-index-reads.Asked, slot-index-reads.Learnt, take-named-reads.Asked, take-named-reads.Learnt, takes-many-reads.Asked, takes-many-reads.Learnt, take-many-reads.Asked, take-many-reads.Learnt, spend-reads.Asked, spend-reads.Learnt, binds-reads.Asked, binds-reads.Learnt, bound-kind-reads.Asked, bound-kind-reads.Learnt, follows-reads.Asked, follows-reads.Learnt, check-term-below t, check-term.Post, check-branches-below t, check-branches.Post)
-
--- what the record takes, from the one of the two parts that says it
-taken-is : (t : ℕ) (c : check-term-lts.Joined1 (check-term-calls t) (check-term-at t) check-term.Post)
-    → let a = c .before .before .before .before .before .before .before .before .before .before .before .args in
-    c .if1 .t ≡ takenOf (a .file .now) (a .decl .now) (a .at) (a .slots) (a .bound) (c .before .before .before .before .before .before .before .before .before .mark .result) (a .result)
-taken-is t c =
-    let a = c .before .before .before .before .before .before .before .before .before .before .before .args in
-    ⊎-elim (λ w. w .2 ∙ w .1 .ensures ∙ many-taken (a .file .now) (a .decl .now) (a .at) (a .slots) (a .bound) (c .before .before .before .before .before .before .before .before .before .mark .result) (a .result) (sym (c .before .takes-many .ensures) ∙ w .0 .taken))
-    (λ w. w .1 ∙ c .before .before .take-named .ensures ∙ names-taken (a .file .now) (a .decl .now) (a .at) (a .slots) (a .bound) (c .before .before .before .before .before .before .before .before .before .before .before .pre .1 .few) (a .result) (c .before .before .before .before .before .before .before .before .before .mark .result) (sym (c .before .takes-many .ensures) ∙ w .0 .left)
-    (c .before .before .before .before .before .before .before .before .first-place .result) (c .before .before .before .before .before .before .before .second-place .result) (c .before .before .before .before .before .before .before .before .first-place .ensures) (c .before .before .before .before .before .before .before .second-place .ensures) (c .before .before .before .before .before .before .slot-index .result) (c .before .before .before .before .before .slot-index2 .result) _ _ (c .before .before .before .before .before .before .slot-index .ensures .0) refl (c .before .before .before .before .before .slot-index2 .ensures .0) refl)
-    (c .if1 .came)
-
--- the slots once the record's are spent
-spent-is : (t : ℕ) (c : check-term-lts.Joined3 (check-term-calls t) (check-term-at t) check-term.Post)
-    → spentBy (bitsOf 32 (c .before .before .before .before .if1 .t .spent)) (c .before .before .before .before .before .before .before .before .before .before .before .before .before .before .before .args .slots) ≡ c .if3 .inner
-spent-is t c = ⊎-elim (λ w. sym (w .2 ∙ w .1 .ensures)) (λ w. kept-none (c .before .before .before .before .before .before .before .before .before .before .before .before .before .before .before .args .slots) (c .before .before .before .before .if1 .t .spent) (w .0 .left) ∙ sym (w .1)) (c .if3 .came)
-
--- what the code has made of a node whose record was taken
-kept-is : (t : ℕ) (c : check-term-lts.Joined4 (check-term-calls t) (check-term-at t) check-term.Post)
-    → let a = c .before .before .before .before .before .before .before .before .before .before .before .before .before .before .before .before .before .args in
-    c .if4 .inner ≡ keptOf (a .slots) (c .before .before .before .before .before .before .if1 .t .spent) (a .bound) (a .bound + c .before .binds .result) (kindBy (a .file .now) (a .decl .now) (a .at) (c .before .before .before .before .before .before .before .before .before .before .before .before .before .before .before .mark .result)) (a .at)
-kept-is t c =
-    let a = c .before .before .before .before .before .before .before .before .before .before .before .before .before .before .before .before .before .args in
-    let s = c .before .before .before .before .before .before .if1 .t .spent in
-    let k = kindBy (a .file .now) (a .decl .now) (a .at) (c .before .before .before .before .before .before .before .before .before .before .before .before .before .before .before .mark .result) in
-    ⊎-elim (λ w. w .2 ∙ kept-bound (a .slots) (c .before .before .if3 .inner) s (a .bound) (a .bound + c .before .binds .result) (w .1 .result) (a .at) (spent-is t (c .before .before)) (w .0 .taken)
-    ∙ ap (λ x. keptOf (a .slots) s (a .bound) (a .bound + c .before .binds .result) x (a .at)) (w .1 .ensures))
-    (λ w. w .1 ∙ kept-all (a .slots) (c .before .before .if3 .inner) s (a .bound) (a .bound + c .before .binds .result) k (a .at) (spent-is t (c .before .before)) (w .0 .left))
-    (c .if4 .came)
-
-node-made : (t : ℕ) (c : check-term-lts.After-follows (check-term-calls t) (check-term-at t) check-term.Post)
-    → let a = c .before .before .before .before .before .before .before .before .before .before .before .before .before .before .before .before .before .before .args in
-    Made (a .file .now) (a .decl .now) (a .at) (a .result) (a .slots) (a .bound) (c .before .before .before .before .before .before .before .before .before .before .before .before .before .before .before .before .mark .result) (c .before .before .before .before .before .before .before .if1 .t) (a .bound + c .before .before .binds .result) (c .before .if4 .inner) (c .follows .result)
-node-made t c = made (c .before .before .before .before .before .before .before .before .before .before .before .before .before .before .before .before .before .before .good .1 .1 .1 .1 .0 .1 .0 .1) (c .before .before .before .before .before .before .before .before .before .before .before .before .before .before .before .before .mark .ensures) (taken-is t (c .before .before .before .before .before .before .before)) (c .before .before .before .before .before .if2 .left) (c .before .before .binds .ensures .0) (kept-is t (c .before)) (c .follows .ensures)
+check-term-calls t = (check-row-reads.Asked, check-row-reads.Learnt, check-term-below t, check-term.Post, check-branches-below t, check-branches.Post)
 
 -- what the code has made of a branch whose constructor is new
 branch-made : (t : ℕ) (c : check-branches-lts.After-credits (check-branches-calls t) (check-branches-at t) check-branches.Post)
@@ -185,68 +136,11 @@ check-branches-returns-3 t c = branch-judged (branch-made t (c .before .before .
 check-branches-returns-4 : (t : ℕ) → check-branches-lts.Need-returns-4 (check-branches-calls t) (check-branches-at t) check-branches.Post
 check-branches-returns-4 t c = branch-stops (branch-made t (c .before .before .before .before)) (c .before .before .before .check-term .ensures) (c .before .number .given .1)
 
-check-term-mark-requires : (t : ℕ) → check-term-lts.Need-mark-requires (check-term-calls t) (check-term-at t) check-term.Post
-check-term-mark-requires t c κs = let low = ready-low (c .before .pre .1) in (low .1, omega (arith, low .0))
-
-check-term-first-place-requires : (t : ℕ) → check-term-lts.Need-first-place-requires (check-term-calls t) (check-term-at t) check-term.Post
-check-term-first-place-requires t c κs = ready-low (c .before .before .pre .1) .1
-
-check-term-second-place-requires : (t : ℕ) → check-term-lts.Need-second-place-requires (check-term-calls t) (check-term-at t) check-term.Post
-check-term-second-place-requires t c κs = ready-low (c .before .before .before .pre .1) .1
-
-check-term-slot-index-requires : (t : ℕ) → check-term-lts.Need-slot-index-requires (check-term-calls t) (check-term-at t) check-term.Post
-check-term-slot-index-requires t c κs = ready-named (c .before .before .before .before .pre .1) (c .before .before .mark .ensures) (c .before .first-place .ensures) (c .second-place .ensures) .0
-
-check-term-slot-index-requires-2 : (t : ℕ) → check-term-lts.Need-slot-index-requires-2 (check-term-calls t) (check-term-at t) check-term.Post
-check-term-slot-index-requires-2 t c κs = ready-named (c .before .before .before .before .before .pre .1) (c .before .before .before .mark .ensures) (c .before .before .first-place .ensures) (c .before .second-place .ensures) .1
-
-check-term-mul-one : (t : ℕ) → check-term-lts.Need-mul-one (check-term-calls t) (check-term-at t) check-term.Post
-check-term-mul-one t c = omega (arith, c .before .slot-index .ensures .1)
-
-check-term-array-copy-out-one : (t : ℕ) → check-term-lts.Need-array-copy-out-one (check-term-calls t) (check-term-at t) check-term.Post
-check-term-array-copy-out-one t c = omega (arith, c .before .slot-index .ensures .1)
-
-check-term-mul-two : (t : ℕ) → check-term-lts.Need-mul-two (check-term-calls t) (check-term-at t) check-term.Post
-check-term-mul-two t c = omega (arith, c .before .slot-index2 .ensures .1)
-
-check-term-array-copy-out-two : (t : ℕ) → check-term-lts.Need-array-copy-out-two (check-term-calls t) (check-term-at t) check-term.Post
-check-term-array-copy-out-two t c = omega (arith, c .before .slot-index2 .ensures .1)
-
-check-term-take-named-requires : (t : ℕ) → check-term-lts.Need-take-named-requires (check-term-calls t) (check-term-at t) check-term.Post
-check-term-take-named-requires t c κs = let low = ready-named (c .before .before .before .before .before .before .before .before .pre .1) (c .before .before .before .before .before .before .mark .ensures) (c .before .before .before .before .before .first-place .ensures) (c .before .before .before .before .second-place .ensures) in (c .before .before .before .before .before .before .before .before .pre .1 .few, low .0, low .1)
-
-check-term-takes-many-requires : (t : ℕ) → check-term-lts.Need-takes-many-requires (check-term-calls t) (check-term-at t) check-term.Post
-check-term-takes-many-requires t c κs = search needs
-
-check-term-take-many-requires : (t : ℕ) → check-term-lts.Need-take-many-requires (check-term-calls t) (check-term-at t) check-term.Post
-check-term-take-many-requires t c κs = let g = c .before .before .before .before .before .before .before .before .before .before .before .pre .1 in (g .few, ready-low g .1, g .declared .wide)
+check-term-check-row-requires : (t : ℕ) → check-term-lts.Need-check-row-requires (check-term-calls t) (check-term-at t) check-term.Post
+check-term-check-row-requires t c κs = c .before .pre .1
 
 check-term-returns : (t : ℕ) → check-term-lts.Need-returns (check-term-calls t) (check-term-at t) check-term.Post
-check-term-returns t c = node-stops (c .before .before .before .before .before .before .before .before .before .before .before .before .before .good .1 .1 .1 .1 .0 .1 .0 .1) (c .before .before .before .before .before .before .before .before .before .before .before .mark .ensures) (taken-is t (c .before .before)) (c .if2 .taken)
-
-check-term-spend-requires : (t : ℕ) → check-term-lts.Need-spend-requires (check-term-calls t) (check-term-at t) check-term.Post
-check-term-spend-requires t c κs = search needs
-
-check-term-binds-requires : (t : ℕ) → check-term-lts.Need-binds-requires (check-term-calls t) (check-term-at t) check-term.Post
-check-term-binds-requires t c κs = search needs
-
-check-term-add-more : (t : ℕ) → check-term-lts.Need-add-more (check-term-calls t) (check-term-at t) check-term.Post
-check-term-add-more t c = omega (arith, c .before .before .before .before .before .before .before .before .before .before .before .before .before .before .before .before .pre .1 .few, c .binds .ensures .1)
-
-check-term-bound-kind-requires : (t : ℕ) → check-term-lts.Need-bound-kind-requires (check-term-calls t) (check-term-at t) check-term.Post
-check-term-bound-kind-requires t c κs = let g = c .before .before .before .before .before .before .before .before .before .before .before .before .before .before .before .before .before .pre .1 in (ready-low g .1, g .declared .wide)
-
-check-term-cast-t41 : (t : ℕ) → check-term-lts.Need-cast-t41 (check-term-calls t) (check-term-at t) check-term.Post
-check-term-cast-t41 t c = omega (arith, ready-low (c .before .before .before .before .before .before .before .before .before .before .before .before .before .before .before .before .before .before .pre .1) .1)
-
-check-term-mul-inner : (t : ℕ) → check-term-lts.Need-mul-inner (check-term-calls t) (check-term-at t) check-term.Post
-check-term-mul-inner t c = omega (arith, c .before .before .before .before .before .before .before .before .before .before .before .before .before .before .before .before .before .before .pre .1 .few)
-
-check-term-array-set-from-inner : (t : ℕ) → check-term-lts.Need-array-set-from-inner (check-term-calls t) (check-term-at t) check-term.Post
-check-term-array-set-from-inner t c = omega (arith, c .before .if4 .taken, node-room (c .before .before .before .before .before .before .before .before .before .before .before .before .before .before .before .before .before .before .args .slots) (c .before .before .before .before .before .before .before .before .before .before .before .before .before .before .before .before .before .before .good .1 .1 .1 .1 .0 .1 .0 .1) (c .before .before .before .before .before .before .before .before .before .before .before .before .before .before .before .before .before .before .pre .1) (c .before .before .before .before .before .before .before .before .before .before .before .before .before .before .before .before .mark .ensures) (c .before .before .binds .ensures .0))
-
-check-term-follows-requires : (t : ℕ) → check-term-lts.Need-follows-requires (check-term-calls t) (check-term-at t) check-term.Post
-check-term-follows-requires t c κs = let g = c .before .before .before .before .before .before .before .before .before .before .before .before .before .before .before .before .before .pre .1 in (ready-low g .1, g .declared .wide)
+check-term-returns t c = c .before .before .check-row .ensures .stops (c .if1 .taken)
 
 check-term-enum-known-then : (t : ℕ) → check-term-lts.Need-enum-known-then (check-term-calls t) (check-term-at t) check-term.Post
 check-term-enum-known-then t c = search needs
@@ -255,19 +149,19 @@ check-term-enum-known-then-2 : (t : ℕ) → check-term-lts.Need-enum-known-then
 check-term-enum-known-then-2 t c = search needs
 
 check-term-check-term-requires : (t : ℕ) → check-term-lts.Need-check-term-requires (check-term-calls t) (check-term-at t) check-term.Post
-check-term-check-term-requires t c κs = let g = c .before .before .before .before .before .before .before .before .before .before .before .before .before .before .before .before .before .before .before .before .before .pre .1 in let w = node-made t (c .before .before .before) in (omega (arith, c .before .before .before .before .before .before .before .before .before .before .before .before .before .before .before .before .before .before .before .before .before .pre .0, ready-low g .0, one-less w (c .before .then2 .given .1) g), one-ready w (c .before .then2 .given .1) g)
+check-term-check-term-requires t c κs = let b = c .before .before .before .before .before .before .check-row .ensures .goes (c .before .before .before .before .if1 .left) in (omega (arith, c .before .before .before .before .before .before .before .before .pre .0, b .later, ready-low (b .ready) .0, one-less (b .made) (c .before .then2 .given .1) (b .ready)), one-ready (b .made) (c .before .then2 .given .1) (b .ready))
 
 check-term-enum-known-then-3 : (t : ℕ) → check-term-lts.Need-enum-known-then-3 (check-term-calls t) (check-term-at t) check-term.Post
 check-term-enum-known-then-3 t c = search needs
 
 check-term-check-term-requires-2 : (t : ℕ) → check-term-lts.Need-check-term-requires-2 (check-term-calls t) (check-term-at t) check-term.Post
-check-term-check-term-requires-2 t c κs = let g = c .before .before .before .before .before .before .before .before .before .before .before .before .before .before .before .before .before .before .before .before .before .pre .1 in let w = node-made t (c .before .before .before) in (omega (arith, c .before .before .before .before .before .before .before .before .before .before .before .before .before .before .before .before .before .before .before .before .before .pre .0, ready-low g .0, two-less w (c .before .then3 .given .1) g), two-ready w (c .before .then3 .given .1) g)
+check-term-check-term-requires-2 t c κs = let b = c .before .before .before .before .before .before .check-row .ensures .goes (c .before .before .before .before .if1 .left) in (omega (arith, c .before .before .before .before .before .before .before .before .pre .0, b .later, ready-low (b .ready) .0, two-less (b .made) (c .before .then3 .given .1) (b .ready)), two-ready (b .made) (c .before .then3 .given .1) (b .ready))
 
 check-term-enum-known-second : (t : ℕ) → check-term-lts.Need-enum-known-second (check-term-calls t) (check-term-at t) check-term.Post
 check-term-enum-known-second t c = search needs
 
 check-term-check-term-requires-3 : (t : ℕ) → check-term-lts.Need-check-term-requires-3 (check-term-calls t) (check-term-at t) check-term.Post
-check-term-check-term-requires-3 t c κs = let g = c .before .before .before .before .before .before .before .before .before .before .before .before .before .before .before .before .before .before .before .before .before .before .before .before .before .pre .1 in let w = node-made t (c .before .before .before .before .before .before .before) in (omega (arith, c .before .before .before .before .before .before .before .before .before .before .before .before .before .before .before .before .before .before .before .before .before .before .before .before .before .pre .0, ready-low g .0, second-less w (c .before .before .before .before .before .then3 .given .1) (c .before .before .before .check-term2 .ensures) (c .before .second .given .1) g), second-ready w (c .before .before .before .before .before .then3 .given .1) (c .before .before .before .check-term2 .ensures) (c .before .second .given .1) g)
+check-term-check-term-requires-3 t c κs = let b = c .before .before .before .before .before .before .before .before .before .before .check-row .ensures .goes (c .before .before .before .before .before .before .before .before .if1 .left) in (omega (arith, c .before .before .before .before .before .before .before .before .before .before .before .before .pre .0, b .later, ready-low (b .ready) .0, second-less (b .made) (c .before .before .before .before .before .then3 .given .1) (c .before .before .before .check-term2 .ensures) (c .before .second .given .1) (b .ready)), second-ready (b .made) (c .before .before .before .before .before .then3 .given .1) (c .before .before .before .check-term2 .ensures) (c .before .second .given .1) (b .ready))
 
 check-term-enum-known-number : (t : ℕ) → check-term-lts.Need-enum-known-number (check-term-calls t) (check-term-at t) check-term.Post
 check-term-enum-known-number t c = search needs
@@ -276,22 +170,22 @@ check-term-enum-known-then-4 : (t : ℕ) → check-term-lts.Need-enum-known-then
 check-term-enum-known-then-4 t c = search needs
 
 check-term-check-branches-requires : (t : ℕ) → check-term-lts.Need-check-branches-requires (check-term-calls t) (check-term-at t) check-term.Post
-check-term-check-branches-requires t c κs = let g = c .before .before .before .before .before .before .before .before .before .before .before .before .before .before .before .before .before .before .before .before .before .pre .1 in let w = node-made t (c .before .before .before) in (omega (arith, c .before .before .before .before .before .before .before .before .before .before .before .before .before .before .before .before .before .before .before .before .before .pre .0, ready-low g .0, many-less w (c .before .then4 .given .1) g), many-ready w (c .before .then4 .given .1) g)
+check-term-check-branches-requires t c κs = let b = c .before .before .before .before .before .before .check-row .ensures .goes (c .before .before .before .before .if1 .left) in (omega (arith, c .before .before .before .before .before .before .before .before .pre .0, b .later, ready-low (b .ready) .0, many-less (b .made) (c .before .then4 .given .1) (b .ready)), many-ready (b .made) (c .before .then4 .given .1) (b .ready))
 
 check-term-returns-2 : (t : ℕ) → check-term-lts.Need-returns-2 (check-term-calls t) (check-term-at t) check-term.Post
-check-term-returns-2 t c = leaf-judged (node-made t (c .before .before .before)) (c .before .then .given .1)
+check-term-returns-2 t c = let b = c .before .before .before .before .before .before .check-row .ensures .goes (c .before .before .before .before .if1 .left) in b .same _ (leaf-judged (b .made) (c .before .then .given .1))
 
 check-term-returns-3 : (t : ℕ) → check-term-lts.Need-returns-3 (check-term-calls t) (check-term-at t) check-term.Post
-check-term-returns-3 t c = one-judged (node-made t (c .before .before .before .before)) (c .before .before .then2 .given .1) (c .check-term .ensures)
+check-term-returns-3 t c = let b = c .before .before .before .before .before .before .before .check-row .ensures .goes (c .before .before .before .before .before .if1 .left) in b .same _ (one-judged (b .made) (c .before .before .then2 .given .1) (c .check-term .ensures))
 
 check-term-returns-4 : (t : ℕ) → check-term-lts.Need-returns-4 (check-term-calls t) (check-term-at t) check-term.Post
-check-term-returns-4 t c = two-judged (node-made t (c .before .before .before .before .before .before .before .before)) (c .before .before .before .before .before .before .then3 .given .1) (c .before .before .before .before .check-term2 .ensures) (c .before .before .second .given .1) (c .check-term3 .ensures)
+check-term-returns-4 t c = let b = c .before .before .before .before .before .before .before .before .before .before .before .check-row .ensures .goes (c .before .before .before .before .before .before .before .before .before .if1 .left) in b .same _ (two-judged (b .made) (c .before .before .before .before .before .before .then3 .given .1) (c .before .before .before .before .check-term2 .ensures) (c .before .before .second .given .1) (c .check-term3 .ensures))
 
 check-term-returns-5 : (t : ℕ) → check-term-lts.Need-returns-5 (check-term-calls t) (check-term-at t) check-term.Post
-check-term-returns-5 t c = two-stops (node-made t (c .before .before .before .before .before .before .before)) (c .before .before .before .before .before .then3 .given .1) (c .before .before .before .check-term2 .ensures) (c .before .number .given .1)
+check-term-returns-5 t c = let b = c .before .before .before .before .before .before .before .before .before .before .check-row .ensures .goes (c .before .before .before .before .before .before .before .before .if1 .left) in b .same _ (two-stops (b .made) (c .before .before .before .before .before .then3 .given .1) (c .before .before .before .check-term2 .ensures) (c .before .number .given .1))
 
 check-term-returns-6 : (t : ℕ) → check-term-lts.Need-returns-6 (check-term-calls t) (check-term-at t) check-term.Post
-check-term-returns-6 t c = many-judged (node-made t (c .before .before .before .before)) (c .before .before .then4 .given .1) (c .check-branches .ensures)
+check-term-returns-6 t c = let b = c .before .before .before .before .before .before .before .check-row .ensures .goes (c .before .before .before .before .before .if1 .left) in b .same _ (many-judged (b .made) (c .before .before .then4 .given .1) (c .check-branches .ensures))
 
 pub +check-branches+check-term-spec : {M : Type 1} → statement M
 +check-branches+check-term-spec =
@@ -321,27 +215,8 @@ pub +check-branches+check-term-spec : {M : Type 1} → statement M
     λ t. check-term-lts.spec (check-term-calls t)
     (check-term-at t)
     check-term.Post
-    (check-term-mark-requires t)
-    (check-term-first-place-requires t)
-    (check-term-second-place-requires t)
-    (check-term-slot-index-requires t)
-    (check-term-slot-index-requires-2 t)
-    (check-term-mul-one t)
-    (check-term-array-copy-out-one t)
-    (check-term-mul-two t)
-    (check-term-array-copy-out-two t)
-    (check-term-take-named-requires t)
-    (check-term-takes-many-requires t)
-    (check-term-take-many-requires t)
+    (check-term-check-row-requires t)
     (check-term-returns t)
-    (check-term-spend-requires t)
-    (check-term-binds-requires t)
-    (check-term-add-more t)
-    (check-term-bound-kind-requires t)
-    (check-term-cast-t41 t)
-    (check-term-mul-inner t)
-    (check-term-array-set-from-inner t)
-    (check-term-follows-requires t)
     (check-term-enum-known-then t)
     (check-term-enum-known-then-2 t)
     (check-term-check-term-requires t)
