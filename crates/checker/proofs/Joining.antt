@@ -22,10 +22,10 @@ use Rattle.standing.proofs.Declaring.{read-declared}
 use Rattle.standing.proofs.Faults.{check-file-inside}
 use Rattle.checker.specs.declared.Judged.{Judged}
 use Rattle.checker.specs.declared.ownership.Checked.{Checked}
-use Rattle.checker.specs.declared.ownership.Checked.the-variants.{Next, Fault}
+use Rattle.checker.specs.declared.ownership.Checked.the-variants.{Next, Unread, Fault}
 use Rattle.checker.specs.Opening.{Ends}
 use Rattle.checker.specs.declared.reading.Reached.{Reached}
-use Rattle.checker.specs.OwnershipReady.{spanned, ReadyFile, JudgedFile}
+use Rattle.checker.specs.Bodies.{Finished}
 use Rattle.checker.specs.Judging.{refusal, acceptance, judged, judgedOf}
 
 -- a file that was read, with its table
@@ -80,49 +80,29 @@ module _ {f d : List ℕ} {funs : ℕ} (w : Whole f d funs) where
   pub whole-declared : Declared (w .file) f d
   whole-declared = subst (λ t. Declared (w .file) f t) (sym (w .table)) (read-declared f (w .file) (w .reads))
 
-  pub whole-ready : ReadyFile f d funs
-  whole-ready = record { file = w .file; declared = whole-declared; many = w .many }
+-- what the pass over the bodies says
+module _ (f d : List ℕ) {r : Checked} (F : Finished f d r) where
+  pub next-accepted : {m : ℕ} → r ≡ Next m → record { number = 0; place = 0; table = d } ≡ judgedOf f
+  next-accepted {m} e =
+      let w = F .next m e in
+      ap (λ t. record { number = 0; place = 0; table = t }) (w .2) ∙ judged-is f (ok (w .0)) (accepted-fine f (w .0) (w .1) (w .3))
 
-  -- what the ownership check says of it
-  checked : {r : Checked} → JudgedFile f d funs r → r ≡ spanned 0 (check-file (w .file))
-  unfolding whole-ready
-  checked j = j .judged whole-ready
+  pub unread-place : {n p : ℕ} → r ≡ Unread n p → p < 4294967296
+  unread-place {n} {p} e = let w = F .unread n p e in omega (arith, w .2)
 
-  fault-is : {r : Checked} {n p : ℕ} → JudgedFile f d funs r → r ≡ Fault n p → check-file (w .file) ≡ refuse n p
-  unfolding spanned
-  fault-is {r} {n} {p} j e = go (check-file (w .file)) refl
-    where
-      go : (o : Outcome (Unit {0})) → check-file (w .file) ≡ o → check-file (w .file) ≡ refuse n p
-      go (ok u) q =
-          let z : Fault n p ≡ Next 0 = sym e ∙ checked j ∙ ap (spanned 0) q in
-          let y : _≡_ {A = ℕ} 0 1 = cc in
-          absurd (omega arith)
-      go (refuse m k) q =
-          let z : Fault n p ≡ Fault m k = sym e ∙ checked j ∙ ap (spanned 0) q in
-          let a : m ≡ n = cc in
-          let b : k ≡ p = cc in
-          q ∙ (λ i. refuse (a i) (b i))
+  pub unread-refused : {n p : ℕ} → r ≡ Unread n p → refusal n p ≡ judgedOf f
+  unread-refused {n} {p} e = let w = F .unread n p e in judged-is f (refuse n p) (accepted-unread f n p (w .1))
 
-  pub fault-place : {r : Checked} {n p : ℕ} → JudgedFile f d funs r → r ≡ Fault n p → p < 4294967296
-  fault-place j e = let h = check-file-inside (w .file) f d whole-declared (fault-is j e) in omega (arith, h, whole-declared .size)
+  -- a fault of the ownership check, in a file that reads
+  module _ {n p : ℕ} (e : r ≡ Fault n p) {t : List ℕ} {funs : ℕ} (w : Whole f t funs) where
+    pub fault-place : p < 4294967296
+    fault-place =
+        let D = whole-declared w in
+        let h = check-file-inside (w .file) f t D (F .fault n p e (w .file) (w .reads)) in
+        omega (arith, h, D .size)
 
-  pub fault-refused : {r : Checked} {n p : ℕ} → JudgedFile f d funs r → r ≡ Fault n p → refusal n p ≡ judgedOf f
-  fault-refused {r} {n} {p} j e = judged-is f (refuse n p) (accepted-read f (w .file) n p (w .reads) (fault-is j e))
-
-  next-fine : {r : Checked} {m : ℕ} → JudgedFile f d funs r → r ≡ Next m → check-file (w .file) ≡ ok tt
-  unfolding spanned
-  next-fine {r} {m} j e = go (check-file (w .file)) refl
-    where
-      go : (o : Outcome (Unit {0})) → check-file (w .file) ≡ o → check-file (w .file) ≡ ok tt
-      go (ok u) q = q
-      go (refuse n k) q =
-          let z : Next m ≡ Fault n k = sym e ∙ checked j ∙ ap (spanned 0) q in
-          let y : _≡_ {A = ℕ} 0 1 = cc in
-          absurd (omega arith)
-
-  pub next-accepted : {r : Checked} {m : ℕ} → JudgedFile f d funs r → r ≡ Next m → record { number = 0; place = 0; table = d } ≡ judgedOf f
-  next-accepted j e =
-      ap (λ t. record { number = 0; place = 0; table = t }) (w .table) ∙ judged-is f (ok (w .file)) (accepted-fine f (w .file) (w .reads) (next-fine j e))
+    pub fault-refused : refusal n p ≡ judgedOf f
+    fault-refused = judged-is f (refuse n p) (accepted-read f (w .file) n p (w .reads) (F .fault n p e (w .file) (w .reads)))
 
 -- the verdict, by what was judged
 told-refused : (f : List ℕ) (n p : ℕ) → accepted f ≡ refuse n p → verdict.Refused n p ≡ verdictOf f

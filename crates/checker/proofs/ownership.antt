@@ -6,4 +6,3 @@ pub mod Naming
 pub mod Nodes
 pub mod Cycle
 pub mod Branching
-pub mod Bodies

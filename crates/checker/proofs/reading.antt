@@ -1,11 +1,11 @@
-mod Named
-mod Spans
-mod Nodes
-mod Cycle
-mod Steps
-mod Tabled
-mod Places
-mod Header
-mod Opened
-mod Body
-mod Filed
+pub mod Named
+pub mod Spans
+pub mod Nodes
+pub mod Cycle
+pub mod Steps
+pub mod Tabled
+pub mod Places
+pub mod Header
+pub mod Opened
+pub mod Body
+pub mod Filed

@@ -7,4 +7,5 @@ pub mod OwnershipBits
 pub mod Slots
 pub mod Ownership
 pub mod OwnershipReady
+pub mod Bodies
 pub mod Judging

@@ -80,6 +80,12 @@ pub record Bodied (f d : List ℕ) (count j at : ℕ) : Type 0 where
   pub inside : at ≤ length f
   pub reads : read f ≡ leftOver f constructors functions terms (drop j functions) at
 
+-- the constructors and the functions are read, and the bodies come next; or the file is refused
+unfoldable pub HeaderRead : (f d : List ℕ) → Reached → Type 0
+HeaderRead f d r =
+    ((r .number ≡ 0) × Bodied f d (r .count) 0 (r .at))
+    ⊎ ((0 < r .number) × (read f ≡ refuse (r .number) (r .at)) × (r .at ≤ 4096))
+
 -- BD, and a body of function j behind it
 unfoldable pub ReadsBody : (f d : List ℕ) → (at j : ℕ) → Read → Type 0
 ReadsBody f d at j r =

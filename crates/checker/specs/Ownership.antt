@@ -15,9 +15,8 @@ use Rattle.standing.specs.Bytes.{byteAt, arityIn, fieldsIn, paramsIn, modesIn}
 use Rattle.checker.specs.declared.slots.Want.{Want}
 use Rattle.checker.specs.declared.slots.Want.the-variants as want
 use Rattle.checker.specs.declared.ownership.Taken.{Taken}
-use Rattle.checker.specs.declared.ownership.Then.{Then}
-use Rattle.checker.specs.declared.ownership.Row.{Row}
-use Rattle.checker.specs.declared.ownership.Then.the-variants.{Leaf, One, Two, Many}
+use Rattle.checker.specs.declared.reading.Then.{Then}
+use Rattle.checker.specs.declared.reading.Then.the-variants.{Leaf, One, Two, Many}
 use Rattle.checker.specs.OwnershipBits.{bitsOf}
 use Rattle.checker.specs.Slots.{nowKind, spendsOf, testOf, wantAt, wantBack, kindAt, slotsOf, spentBy, unbound, bound-slot}
 
@@ -26,10 +25,6 @@ fine spent = record { number = 0; place = 0; spent = spent }
 
 abbrev pub fault : (number place : ℕ) → Taken
 fault n p = record { number = n; place = p; spent = 0 }
-
--- where a row of nodes ends, from what its last node takes
-abbrev pub rowOf : Taken → Then → List Slot → ℕ → Row
-rowOf t f slots bound = record { number = t .number; place = t .place; then = f; slots = slots; bound = bound }
 
 -- go on with what was taken; a fault stands
 unfoldable pub onFine : Taken → Taken → Taken

@@ -10,16 +10,15 @@ use Rattle.meaning.specs.Marks.{findMark, rowAt}
 use Rattle.meaning.specs.Syntax.{Sort, Term, Branches, Constructor, File}
 use Rattle.meaning.specs.Plain.{place-of}
 use Rattle.meaning.specs.Reading.{credits}
-use Rattle.meaning.specs.Machine.{function-of, body-of}
+use Rattle.meaning.specs.Machine.{function-of}
 use Rattle.meaning.specs.Outcome.{Outcome, ok, refuse}
-use Rattle.meaning.specs.Ownership.{check, check-branches, check-file, member, bound-by-OP, bound-by-LK}
+use Rattle.meaning.specs.Ownership.{check, check-branches, member, bound-by-OP, bound-by-LK}
 use Rattle.meaning.specs.Ownership as tree
-use Rattle.standing.specs.Bytes.{markAt}
-use Rattle.standing.specs.Stands.{Stands, Each, count}
-use Rattle.standing.specs.Table.{Declared, sort-byte}
+use Rattle.standing.specs.Bytes.{byteAt, markAt, arityIn, fieldsIn, paramsIn, modesIn}
+use Rattle.standing.specs.Stands.{Stands, Each, count, arity}
+use Rattle.standing.specs.Table.{Sorts, Modes, sort-byte}
 use Rattle.checker.specs.declared.ownership.Taken.{Taken}
-use Rattle.checker.specs.declared.ownership.Then.{Then}
-use Rattle.checker.specs.declared.ownership.Row.{Row}
+use Rattle.checker.specs.declared.reading.Then.{Then}
 use Rattle.checker.specs.declared.ownership.Checked.{Checked}
 use Rattle.checker.specs.declared.ownership.Checked.the-variants.{Next, Fault}
 use Rattle.checker.specs.OwnershipBits.{bitsOf}
@@ -31,9 +30,24 @@ unfoldable pub spanned : ℕ → Outcome (Unit {0}) → Checked
 spanned next (ok u) = Next next
 spanned next (refuse n p) = Fault n p
 
+-- what a table says of a file's constructors and functions: its last 32 words, the places of the bodies, may still be missing
+pub record Known (file : File) (bytes table : List ℕ) : Type 0 where
+  pub wide : length table ≡ 128
+  pub constructors : length (file .constructors) ≤ 64
+  pub functions : length (file .functions) ≤ 32
+  pub arities : (c : ℕ) → c < length (file .constructors) → arityIn table c ≡ arity file bytes c
+  pub small : (c : ℕ) → arity file bytes c ≤ 4
+  pub sorts : (c : ℕ) → c < length (file .constructors) → Sorts bytes (fieldsIn table c) (getD (file .constructors) c [])
+  pub parameters : (f : ℕ) → f < length (file .functions) → paramsIn table f ≡ length (function-of file f .parameters)
+  pub few : (f : ℕ) → length (function-of file f .parameters) ≤ 8
+  pub modes : (f : ℕ) → f < length (file .functions) → Modes bytes (modesIn table f) (function-of file f .parameters)
+  pub result : (f : ℕ) → f < length (file .functions)
+      → (byteAt bytes (modesIn table f + paramsIn table f) ≡ sort-byte (function-of file f .result)) × (modesIn table f + paramsIn table f < length bytes)
+  pub size : length bytes ≤ 4096
+
 pub record Ready (bytes decl : List ℕ) (at result bound : ℕ) : Type 0 where
   pub file : File
-  pub declared : Declared file bytes decl
+  pub declared : Known file bytes decl
   pub sort : Sort
   pub wanted : sort-byte sort ≡ result
   pub term : Term
@@ -56,23 +70,6 @@ pub record Made (bytes decl : List ℕ) (at result : ℕ) (slots : List Slot) (b
   pub kept : inner ≡ keptOf slots (t .spent) bound more (kindBy bytes decl at m) at
   pub follows : f ≡ thenOf bytes decl at m
 
--- a row of nodes, from a place on, ends behind a node that was taken: the check of the term there answers as that from the first place
-pub record Behind (bytes decl : List ℕ) (at result : ℕ) (slots : List Slot) (bound more : ℕ) (inner : List Slot) (f : Then) : Type 0 where
-  pub place : ℕ
-  pub left : List Slot
-  pub have : ℕ
-  pub mark : ℕ
-  pub took : Taken
-  pub later : at ≤ place
-  pub ready : Ready bytes decl place result have
-  pub made : Made bytes decl place result left have mark took more inner f
-  pub same : (r : Checked) → Judged bytes decl place result left have r → Judged bytes decl at result slots bound r
-
--- a row of nodes: its fault is the answer, or it ends behind a node
-pub record InRow (bytes decl : List ℕ) (at result : ℕ) (slots : List Slot) (bound : ℕ) (r : Row) : Type 0 where
-  pub stops : (r .number ≡ 0 → ⊥) → Judged bytes decl at result slots bound (Fault (r .number) (r .place))
-  pub goes : r .number ≡ 0 → Behind bytes decl at result slots bound (r .bound) (r .slots) (r .then)
-
 -- what a branch of OP (credit 1) or LK (credit 0) binds besides the fields, and all that it binds
 abbrev pub extraBy : ℕ → Constructor → ℕ
 extraBy zero = λ c. 0
@@ -84,7 +81,7 @@ boundBy (suc n) = bound-by-OP
 
 pub record ReadyAll (bytes decl : List ℕ) (at left credit result bound : ℕ) : Type 0 where
   pub file : File
-  pub declared : Declared file bytes decl
+  pub declared : Known file bytes decl
   pub sort : Sort
   pub wanted : sort-byte sort ≡ result
   pub branches : Branches
@@ -102,21 +99,16 @@ pub record JudgedAll (bytes decl : List ℕ) (at left credit seen result : ℕ) 
   pub judged : (g : ReadyAll bytes decl at left credit result bound) (list : List ℕ) → Seen list seen
       → r ≡ spanned (g .next) (check-branches (g .file .constructors) (g .file .functions) (g .sort) (g .branches) (boundBy credit) list (slotsOf bound slots))
 
--- a function of a file that was read, with its table, and its body
-pub record ReadyBody (bytes decl : List ℕ) (f : ℕ) : Type 0 where
+-- a body of function f behind its BD, which stands at `at`
+pub record ReadyBody (bytes decl : List ℕ) (at f : ℕ) : Type 0 where
   pub file : File
-  pub declared : Declared file bytes decl
+  pub declared : Known file bytes decl
   pub low : f < length (file .functions)
+  pub term : Term
+  pub next : ℕ
+  pub here : place-of term ≡ at + 2
+  pub stands : Stands file bytes (length (function-of file f .parameters)) term next
 
-pub record JudgedBody (bytes decl : List ℕ) (f : ℕ) (r : Checked) : Type 0 where
-  pub judged : (g : ReadyBody bytes decl f)
-      → (n : ℕ) × (r ≡ spanned n (check (g .file .constructors) (g .file .functions) (function-of (g .file) f .result) (body-of (g .file) f) (tree.bind [] (map tree.kind-of (function-of (g .file) f .parameters)))))
-
--- a file that was read, with its table
-pub record ReadyFile (bytes decl : List ℕ) (funs : ℕ) : Type 0 where
-  pub file : File
-  pub declared : Declared file bytes decl
-  pub many : length (file .functions) ≡ funs
-
-pub record JudgedFile (bytes decl : List ℕ) (funs : ℕ) (r : Checked) : Type 0 where
-  pub judged : (g : ReadyFile bytes decl funs) → r ≡ spanned 0 (check-file (g .file))
+pub record JudgedBody (bytes decl : List ℕ) (at f : ℕ) (r : Checked) : Type 0 where
+  pub judged : (g : ReadyBody bytes decl at f)
+      → r ≡ spanned (g .next) (check (g .file .constructors) (g .file .functions) (function-of (g .file) f .result) (g .term) (tree.bind [] (map tree.kind-of (function-of (g .file) f .parameters))))

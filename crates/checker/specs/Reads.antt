@@ -9,10 +9,9 @@ use Rattle.meaning.specs.Syntax.{Signature, Constructor}
 use Rattle.meaning.specs.Outcome.{Outcome, ok, refuse}
 use Rattle.meaning.specs.Reading.{term, branches}
 use Rattle.checker.specs.declared.reading.Path.{Path}
-use Rattle.checker.specs.declared.reading.Node.{Node}
 use Rattle.checker.specs.declared.reading.Read.{Read}
 use Rattle.checker.specs.declared.reading.Read.the-variants.{Next, Fault}
-use Rattle.checker.specs.ReadingBytes.{knownArity, knownCount, nodeAt}
+use Rattle.checker.specs.ReadingBytes.{knownArity, knownCount}
 
 unfoldable pub spanOf : {A : Type 0} → Outcome (A × ℕ × List ℕ) → Read
 spanOf (ok r) = Next (r .1)
@@ -53,14 +52,3 @@ unfoldable pub ReadsBranches : List ℕ → List ℕ → ℕ → ℕ → ℕ →
 ReadsBranches f d at count credit p r =
     (cs : List Constructor) (fs : List Signature) → Declares d cs fs → (n : ℕ) → length f - at < n
     → r ≡ spanOf (branches cs fs n count (extraOf credit) (p .slots) (p .nodes) at (drop at f))
-
--- nodes in a row, from a place on, end with this node: it stands at a place from which on a term reads as from the first
-pub record InRow (f d : List ℕ) (at : ℕ) (p : Path) (n : Node) : Type 0 where
-  pub place : ℕ
-  pub path : Path
-  pub later : at ≤ place
-  pub inside : place ≤ length f
-  pub slots : path .slots ≤ 32
-  pub nodes : path .nodes ≤ 64
-  pub node : n ≡ nodeAt f d place path
-  pub same : (r : Read) → ReadsTerm f d place path r → ReadsTerm f d at p r

@@ -1,12 +1,13 @@
 // The checker: a file's verdict, and what the machine needs of an accepted file.
+mod bodies;
 mod calls;
 mod ownership;
 mod reading;
 mod slots;
 
+use crate::bodies::check_file;
 use crate::calls::shape_of;
 use crate::ownership::Checked;
-use crate::ownership::check_bodies;
 use crate::reading::read_file;
 use meaning::Verdict;
 ghost use mathlib.Core.Path.{_≡_};
@@ -33,22 +34,26 @@ fn refused(number: u32, place: usize) -> Judged
     }
 }
 
-// Answers 1 to 12, or the table of an accepted file.
+// Answers 1 to 12, or the table of an accepted file. A fault of 7 to 12 counts only if reading alone finds none.
 pub fn judge(file: &[u8]) -> Judged
     ensures { λ r. ⌜ r ≡ judgedOf (now (file .entry)) ⌝ }
 {
     let mut table: [u32; 128] = [255; 128];
-    let h = read_file(file, &mut table);
-    if h.number != 0 {
-        return refused(h.number, h.at);
-    }
-    match check_bodies(file, &table, h.count) {
-        Checked::Fault(number, place) => refused(number, place),
+    match check_file(file, &mut table) {
         Checked::Next(end) => Judged {
             number: 0,
             place: 0,
             table: table,
         },
+        Checked::Unread(number, place) => refused(number, place),
+        Checked::Fault(number, place) => {
+            let mut again: [u32; 128] = [255; 128];
+            let h = read_file(file, &mut again);
+            if h.number != 0 {
+                return refused(h.number, h.at);
+            }
+            refused(number, place)
+        }
     }
 }
 

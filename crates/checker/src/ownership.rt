@@ -1,18 +1,16 @@
-// The ownership check: answers 7 to 12, on a file that was read. It goes along a row of nodes in a loop, and down a term by calling itself on what
-// follows the row.
+// The ownership check: what a record takes, spends and binds; answers 7 to 12.
 use crate::slots::Want;
 use crate::slots::current;
-use crate::slots::fresh_slots;
 use crate::slots::has;
 use crate::slots::kind_of;
 use crate::slots::left_over;
-use crate::slots::spend;
 use crate::slots::spends;
 use crate::slots::test;
 use crate::slots::want_back;
 use crate::slots::want_of;
 use crate::slots::with;
 use meaning::AR;
+use meaning::BYTES;
 use meaning::CL;
 use meaning::GV;
 use meaning::IF;
@@ -24,18 +22,16 @@ use meaning::OP;
 use meaning::Slot;
 use meaning::TL;
 use meaning::find_mark;
-use meaning::mark_row;
 ghost use mathlib.Core.Path.{_≡_};
 ghost use mathlib.Core.Bool.{Bool, true, false};
 ghost use Prim.Native.Nat.{_+_, _*_, _^_, _%_, _<_, _≤_};
 ghost use lib.ListN.{length, set, getD};
 ghost use lib.Bits.{bitOr};
 ghost use Rattle.meaning.specs.Choice.{pick};
-ghost use Rattle.meaning.specs.Marks.{findMark, rowAt};
-ghost use Rattle.standing.specs.Bytes.{byteAt, markAt, arityIn, fieldsIn, paramsIn, modesIn, bodyIn};
+ghost use Rattle.meaning.specs.Marks.{findMark};
+ghost use Rattle.standing.specs.Bytes.{byteAt, markAt, arityIn, fieldsIn, paramsIn, modesIn};
 ghost use Rattle.checker.specs.OwnershipBits.{bitsOf};
-ghost use Rattle.checker.specs.Ownership.{fine, fault, resultIn, takeKind, takeOf, barsOf, listOf, closeOf, makeOf, callOf, giveOf, tailOf, manyOf, takesMany, namedOf, twoOf, namesOf, firstPlace, secondPlace, kindBy, namedBy, thenOf, laidOf, creditsOf, branchOf, rowOf};
-ghost use Rattle.checker.specs.OwnershipReady.{Ready, Judged, InRow, ReadyAll, JudgedAll, ReadyBody, JudgedBody, ReadyFile, JudgedFile};
+ghost use Rattle.checker.specs.Ownership.{fine, fault, resultIn, takeKind, takeOf, barsOf, listOf, closeOf, makeOf, callOf, giveOf, tailOf, manyOf, takesMany, namedOf, twoOf, namesOf, firstPlace, secondPlace, kindBy, laidOf, creditsOf, branchOf};
 
 // What a record takes: the slots that it spends, as bits; or, where the number is not 0, a fault and its place.
 pub struct Taken {
@@ -44,26 +40,10 @@ pub struct Taken {
     pub spent: u32,
 }
 
-// What follows a node, and where; of branches also how many, and whether each binds a credit.
-pub enum Then {
-    Leaf(usize),
-    One(usize),
-    Two(usize),
-    Many(usize, usize, usize),
-}
-
-// Where a row of nodes ends: what follows its last node, and the slots there; or, where the number is not 0, a fault and its place.
-pub struct Row {
-    pub number: u32,
-    pub place: usize,
-    pub then: Then,
-    pub slots: [Slot; 32],
-    pub bound: usize,
-}
-
-// Where a term that was checked ends, or the refusal's number and place.
+// Where a term that was read and checked ends; or, of reading or else of the ownership check, the refusal's number and place.
 pub enum Checked {
     Next(usize),
+    Unread(u32, usize),
     Fault(u32, usize),
 }
 
@@ -104,7 +84,7 @@ fn wide_word(w: u32) -> usize
 }
 
 // The byte at a place, 0 past the end.
-fn byte(file: &[u8], at: usize) -> usize
+pub(crate) fn byte(file: &[u8], at: usize) -> usize
     ensures { λ r. ⌜ (r ≡ byteAt (now (file .entry)) at) × (r < 256) ⌝ }
 {
     if at < file.len() {
@@ -133,7 +113,7 @@ fn word(decl: &[u32; 128], i: usize) -> usize
 }
 
 // The place in the table of marks of the mark at a place.
-fn mark(file: &[u8], at: usize) -> usize
+pub(crate) fn mark(file: &[u8], at: usize) -> usize
     requires { ⌜ (at ≤ 4096) × (at + 1 < length (now file)) ⌝ }
     ensures { λ r. ⌜ r ≡ findMark (markAt (now (file .entry)) at) ⌝ }
 {
@@ -157,7 +137,7 @@ fn sorts(decl: &[u32; 128], c: usize) -> usize
 }
 
 // A function's count of parameters.
-fn params(decl: &[u32; 128], f: usize) -> usize
+pub(crate) fn params(decl: &[u32; 128], f: usize) -> usize
     requires { ⌜ (f < 256) × (length (now decl) ≡ 128) ⌝ }
     ensures { λ r. ⌜ (r ≡ paramsIn (now (decl .entry)) f) × (r < 256) ⌝ }
 {
@@ -165,7 +145,7 @@ fn params(decl: &[u32; 128], f: usize) -> usize
 }
 
 // The place of the mode of a function's first parameter.
-fn modes(decl: &[u32; 128], f: usize) -> usize
+pub(crate) fn modes(decl: &[u32; 128], f: usize) -> usize
     requires { ⌜ (f < 256) × (length (now decl) ≡ 128) ⌝ }
     ensures { λ r. ⌜ (r ≡ modesIn (now (decl .entry)) f) × (r < 16777216) ⌝ }
 {
@@ -173,7 +153,7 @@ fn modes(decl: &[u32; 128], f: usize) -> usize
 }
 
 // The sort of a function's result: 0 number, 1 tree.
-fn result_of(file: &[u8], decl: &[u32; 128], f: usize) -> usize
+pub(crate) fn result_of(file: &[u8], decl: &[u32; 128], f: usize) -> usize
     requires { ⌜ (f < 256) × (length (now decl) ≡ 128) ⌝ }
     ensures { λ r. ⌜ (r ≡ resultIn (now (file .entry)) (now (decl .entry)) f) × (r < 256) ⌝ }
 {
@@ -332,7 +312,7 @@ fn take_tail(
 }
 
 // What the record of GV, MK, CL or TL takes: a list, or all that is left.
-fn take_many(
+pub(crate) fn take_many(
     file: &[u8],
     decl: &[u32; 128],
     at: usize,
@@ -354,7 +334,7 @@ fn take_many(
 }
 
 // Does take_many say what the record takes?
-fn takes_many(m: usize) -> bool
+pub(crate) fn takes_many(m: usize) -> bool
     ensures { λ r. ⌜ r ≡ takesMany m ⌝ }
 {
     match m {
@@ -379,7 +359,14 @@ fn take_one(file: &[u8], place: usize, kind: Kind, want: Want, bound: usize) -> 
 }
 
 // AR: two numbers, by their kinds.
-fn take_pair(file: &[u8], p: usize, q: usize, first: Kind, second: Kind, bound: usize) -> Taken
+pub(crate) fn take_pair(
+    file: &[u8],
+    p: usize,
+    q: usize,
+    first: Kind,
+    second: Kind,
+    bound: usize,
+) -> Taken
     requires { ⌜ (bound ≤ 32) × (p < length (now file)) × (q < length (now file)) ⌝ }
     ensures { λ r. ⌜ r ≡ twoOf (now (file .entry)) p q first second bound ⌝ }
 {
@@ -391,7 +378,7 @@ fn take_pair(file: &[u8], p: usize, q: usize, first: Kind, second: Kind, bound: 
 }
 
 // What the record of OP, LK, AR or IF takes, by the kinds of the slots that are named at two places; no other takes so.
-fn take_named(
+pub(crate) fn take_named(
     file: &[u8],
     m: usize,
     p: usize,
@@ -413,7 +400,7 @@ fn take_named(
 }
 
 // Where a record names its first slot.
-fn first_place(m: usize, at: usize) -> usize
+pub(crate) fn first_place(m: usize, at: usize) -> usize
     requires { ⌜ at ≤ 4096 ⌝ }
     ensures { λ r. ⌜ r ≡ firstPlace m at ⌝ }
 {
@@ -424,7 +411,7 @@ fn first_place(m: usize, at: usize) -> usize
 }
 
 // Where AR names its second slot; of another record, where it names its first.
-fn second_place(m: usize, at: usize) -> usize
+pub(crate) fn second_place(m: usize, at: usize) -> usize
     requires { ⌜ at ≤ 4096 ⌝ }
     ensures { λ r. ⌜ r ≡ secondPlace m at ⌝ }
 {
@@ -435,7 +422,7 @@ fn second_place(m: usize, at: usize) -> usize
 }
 
 // The slot that is named at a place, as an index of the array.
-fn slot_index(file: &[u8], at: usize) -> usize
+pub(crate) fn slot_index(file: &[u8], at: usize) -> usize
     requires { ⌜ at < length (now file) ⌝ }
     ensures { λ r. ⌜ (r ≡ byteAt (now (file .entry)) at % 32) × (r < 32) ⌝ }
 {
@@ -443,7 +430,7 @@ fn slot_index(file: &[u8], at: usize) -> usize
 }
 
 // The kind of slot that a node binds, if it binds one.
-fn bound_kind(file: &[u8], decl: &[u32; 128], at: usize, m: usize) -> Kind
+pub(crate) fn bound_kind(file: &[u8], decl: &[u32; 128], at: usize, m: usize) -> Kind
     requires { ⌜ (at ≤ 4096) × (length (now decl) ≡ 128) ⌝ }
     ensures { λ r. ⌜ r ≡ kindBy (now (file .entry)) (now (decl .entry)) at m ⌝ }
 {
@@ -455,46 +442,8 @@ fn bound_kind(file: &[u8], decl: &[u32; 128], at: usize, m: usize) -> Kind
     }
 }
 
-// How many slots a node's record names behind its fixed fields.
-fn named(file: &[u8], decl: &[u32; 128], at: usize, m: usize) -> usize
-    requires { ⌜ (at ≤ 4096) × (length (now decl) ≡ 128) ⌝ }
-    ensures { λ r. ⌜ (r ≡ namedBy (now (file .entry)) (now (decl .entry)) at m) × (r < 256) ⌝ }
-{
-    match m {
-        MK => arity(decl, byte(file, at + 2)),
-        CL => params(decl, byte(file, at + 2)),
-        TL => params(decl, byte(file, at + 2)),
-        _ => 0,
-    }
-}
-
-// What follows a node's record.
-fn follows(file: &[u8], decl: &[u32; 128], at: usize, m: usize) -> Then
-    requires { ⌜ (at ≤ 4096) × (length (now decl) ≡ 128) ⌝ }
-    ensures { λ r. ⌜ r ≡ thenOf (now (file .entry)) (now (decl .entry)) at m ⌝ }
-{
-    let row = mark_row(m);
-    let next = at + 2 + wide(row.fields) + named(file, decl, at, m);
-    match m {
-        GV => Then::Leaf(next),
-        TL => Then::Leaf(next),
-        OP => Then::Many(next, byte(file, at + 3), 1),
-        LK => Then::Many(next, byte(file, at + 3), 0),
-        IF => Then::Two(next),
-        _ => Then::One(next),
-    }
-}
-
-// How many slots a node binds, by the table of marks.
-fn binds(m: usize) -> usize
-    ensures { λ r. ⌜ (r ≡ rowAt m .binds) × (r < 256) ⌝ }
-{
-    let row = mark_row(m);
-    wide(row.binds)
-}
-
 // Slots bound one after the other, for modes whose bytes stand from a place on (sorts of owned trees are scaled by 2).
-fn bind_all(
+pub(crate) fn bind_all(
     file: &[u8],
     modes: usize,
     scale: usize,
@@ -530,7 +479,7 @@ fn credits(k: usize, credit: usize) -> usize
 }
 
 // The slots that a branch starts from.
-fn branch_slots(
+pub(crate) fn branch_slots(
     file: &[u8],
     decl: &[u32; 128],
     c: usize,
@@ -554,7 +503,7 @@ fn branch_slots(
 }
 
 // Is the constructor in the set?
-fn sees(seen: u64, c: usize) -> bool
+pub(crate) fn sees(seen: u64, c: usize) -> bool
     requires { ⌜ c < 64 ⌝ }
     ensures { λ r. ⌜ r ≡ getD (bitsOf 64 seen) c false ⌝ }
 {
@@ -562,203 +511,24 @@ fn sees(seen: u64, c: usize) -> bool
 }
 
 // The set with the constructor.
-fn seeing(seen: u64, c: usize) -> u64
+pub(crate) fn seeing(seen: u64, c: usize) -> u64
     requires { ⌜ c < 64 ⌝ }
     ensures { λ r. ⌜ r ≡ bitOr seen (2 ^ c) ⌝ }
 {
     seen | (1 << (c as u64))
 }
 
-// Where a row of nodes ends, from what its last node takes.
-fn row_of(t: Taken, then: Then, slots: [Slot; 32], bound: usize) -> Row
-    ensures { λ r. ⌜ r ≡ rowOf t then slots bound ⌝ }
-{
-    Row {
-        number: t.number,
-        place: t.place,
-        then: then,
-        slots: slots,
-        bound: bound,
-    }
-}
-
-// Up to sixteen nodes from a place on, each followed by the next alone; the last is followed by anything.
-fn check_row(
-    file: &[u8],
-    decl: &[u32; 128],
-    start: usize,
-    result: usize,
-    slots: [Slot; 32],
-    have: usize,
-) -> Row
-    requires { ⌜ Ready (now file) (now decl) start result have ⌝ }
-    ensures { λ r. ⌜ InRow (now (file .entry)) (now (decl .entry)) start result slots have r ⌝ }
-{
-    let mut inner = slots;
-    let mut at = start;
-    let mut bound = have;
-    let mut k: usize = 0;
-    while k < 16 {
-        let m = mark(file, at);
-        let p = first_place(m, at);
-        let q = second_place(m, at);
-        let i = slot_index(file, p);
-        let j = slot_index(file, q);
-        let one = inner[i];
-        let two = inner[j];
-        let first = one.kind;
-        let second = two.kind;
-        let mut t = take_named(file, m, p, q, first, second, bound);
-        if takes_many(m) {
-            t = take_many(file, decl, at, m, result, inner, bound);
-        }
-        if t.number != 0 {
-            return row_of(t, Then::Leaf(at), inner, bound);
-        }
-        if t.spent != 0 {
-            let left = spend(inner, t.spent);
-            inner = left;
-        }
-        let more = bound + binds(m);
-        if bound < more {
-            let kind = bound_kind(file, decl, at, m);
-            inner[bound] = Slot {
-                kind,
-                place: at as u16,
-            };
-        }
-        let then = follows(file, decl, at, m);
-        match then {
-            Then::One(next) => {
-                at = next;
-                bound = more;
-                k += 1;
-            }
-            _ => {
-                return row_of(t, then, inner, more);
-            }
-        }
-    }
-    row_of(fine(0), Then::One(at), inner, bound)
-}
-
-// The term at a place, with so many slots bound.
-fn check_term(
-    file: &[u8],
-    decl: &[u32; 128],
-    at: usize,
-    result: usize,
-    slots: [Slot; 32],
-    bound: usize,
-) -> Checked
-    requires { ⌜ Ready (now file) (now decl) at result bound ⌝ }
-    ensures { λ r. ⌜ Judged (now (file .entry)) (now (decl .entry)) at result slots bound r ⌝ }
-{
-    let row = check_row(file, decl, at, result, slots, bound);
-    if row.number != 0 {
-        return Checked::Fault(row.number, row.place);
-    }
-    let then = row.then;
-    let inner = row.slots;
-    let more = row.bound;
-    match then {
-        Then::Leaf(next) => Checked::Next(next),
-        Then::One(next) => check_term(file, decl, next, result, inner, more),
-        Then::Two(next) => match check_term(file, decl, next, result, inner, more) {
-            Checked::Next(second) => check_term(file, decl, second, result, inner, more),
-            Checked::Fault(number, place) => Checked::Fault(number, place),
-        },
-        Then::Many(next, count, credit) => {
-            check_branches(file, decl, next, count, credit, 0, result, inner, more)
-        }
-    }
-}
-
-// So many branches from a place on, each from the same slots.
-fn check_branches(
-    file: &[u8],
-    decl: &[u32; 128],
-    at: usize,
-    left: usize,
-    credit: usize,
-    seen: u64,
-    result: usize,
-    slots: [Slot; 32],
-    bound: usize,
-) -> Checked
-    requires { ⌜ ReadyAll (now file) (now decl) at left credit result bound ⌝ }
-    ensures { λ r. ⌜ JudgedAll (now (file .entry)) (now (decl .entry)) at left credit seen result slots bound r ⌝ }
-{
-    if left == 0 {
-        return Checked::Next(at);
-    }
-    let c = byte(file, at + 2);
-    if sees(seen, c) {
-        return Checked::Fault(12, at + 2);
-    }
-    let k = arity(decl, c);
-    let inner = branch_slots(file, decl, c, at, credit, slots, bound);
-    let more = bound + k + credits(k, credit);
-    match check_term(file, decl, at + 3, result, inner, more) {
-        Checked::Next(next) => check_branches(
-            file,
-            decl,
-            next,
-            left - 1,
-            credit,
-            seeing(seen, c),
-            result,
-            slots,
-            bound,
-        ),
-        Checked::Fault(number, place) => Checked::Fault(number, place),
-    }
-}
-
-// The place of a function's mark.
-fn head(decl: &[u32; 128], f: usize) -> usize
+// The place of a function's mark, by that of its first mode; 0 where that is none of a file.
+pub(crate) fn head(decl: &[u32; 128], f: usize) -> usize
     requires { ⌜ (f < 256) × (length (now decl) ≡ 128) ⌝ }
-    ensures { λ r. ⌜ r ≤ modesIn (now (decl .entry)) f ⌝ }
+    ensures { λ r. ⌜ r ≤ 4096 ⌝ }
 {
     let first = modes(decl, f);
-    if 3 <= first {
-        return first - 3;
+    if first < 3 {
+        return 0;
     }
-    0
-}
-
-// A function's body, from its parameters.
-fn check_body(file: &[u8], decl: &[u32; 128], f: usize) -> Checked
-    requires { ⌜ ReadyBody (now file) (now decl) f ⌝ }
-    ensures { λ r. ⌜ JudgedBody (now (file .entry)) (now (decl .entry)) f r ⌝ }
-{
-    let n = params(decl, f);
-    let fresh = fresh_slots();
-    let slots = bind_all(file, modes(decl, f), 1, n, head(decl, f), fresh, 0);
-    check_term(
-        file,
-        decl,
-        word(decl, 96 + f),
-        result_of(file, decl, f),
-        slots,
-        n,
-    )
-}
-
-// The bodies of a file that was read, in order.
-pub(crate) fn check_bodies(file: &[u8], decl: &[u32; 128], funs: usize) -> Checked
-    requires { ⌜ ReadyFile (now file) (now decl) funs ⌝ }
-    ensures { λ r. ⌜ JudgedFile (now (file .entry)) (now (decl .entry)) funs r ⌝ }
-{
-    let mut f: usize = 0;
-    while f < funs {
-        match check_body(file, decl, f) {
-            Checked::Fault(number, place) => {
-                return Checked::Fault(number, place);
-            }
-            Checked::Next(next) => {}
-        }
-        f += 1;
+    if BYTES < first {
+        return 0;
     }
-    Checked::Next(0)
+    first - 3
 }

@@ -5,8 +5,8 @@ ghost use Prim.Native.Nat.{_+_, _*_, _%_, _<_, _≤_};
 ghost use lib.ListN.{length, replicate};
 ghost use Rattle.standing.specs.Bytes.{byteAt};
 ghost use Rattle.checker.specs.ReadingBytes.{bindsOf, room, knownArity, knownCount, atomField, makeFields, callFields, openFields, sumFields, fieldsAt, followsAt, limited, nodeAt, moreOf, branchFields, branchAt, numberAt, smallBytes, conAt, funAt, expectAt, finishAt, endAt};
-ghost use Rattle.checker.specs.Reads.{From, ReadsTerm, ReadsBranches, InRow};
-ghost use Rattle.checker.specs.Opening.{tableWith, ConsRead, Headed, FunsRead, Bodied, ReadsBody, Ends};
+ghost use Rattle.checker.specs.Reads.{From, ReadsTerm, ReadsBranches};
+ghost use Rattle.checker.specs.Opening.{tableWith, ConsRead, Headed, FunsRead, HeaderRead, Bodied, ReadsBody, Ends};
 use meaning::AR;
 use meaning::AT;
 use meaning::BD;
@@ -35,13 +35,13 @@ use meaning::find_mark;
 use meaning::mark_row;
 
 // The slots and the nodes on a path, from the body's start.
-struct Path {
-    slots: usize,
-    nodes: usize,
+pub(crate) struct Path {
+    pub slots: usize,
+    pub nodes: usize,
 }
 
 // What follows a node, and where; of branches also how many, and whether each binds a credit.
-enum Then {
+pub(crate) enum Then {
     Leaf(usize),
     One(usize),
     Two(usize),
@@ -50,13 +50,13 @@ enum Then {
 }
 
 // A node that was read: what follows it, and the path with it.
-struct Node {
-    then: Then,
-    path: Path,
+pub(crate) struct Node {
+    pub then: Then,
+    pub path: Path,
 }
 
 // Where reading goes on, or the answer that refuses the file and its place.
-enum Read {
+pub(crate) enum Read {
     Next(usize),
     Fault(u32, usize),
 }
@@ -266,7 +266,7 @@ fn limits(file: &[u8], at: usize, mark: usize, p: Path, next: usize) -> Node
 }
 
 // The node at a place: its mark, its fields, its limits, and what follows it.
-fn read_node(file: &[u8], decl: &[u32; 128], at: usize, p: Path) -> Node
+pub(crate) fn read_node(file: &[u8], decl: &[u32; 128], at: usize, p: Path) -> Node
     requires { ⌜ (at ≤ length (now file)) × (p .slots ≤ 32) × (p .nodes ≤ 64) ⌝ }
     ensures { λ r. ⌜ r ≡ nodeAt (now (file .entry)) (now (decl .entry)) at p ⌝ }
 {
@@ -283,35 +283,6 @@ fn read_node(file: &[u8], decl: &[u32; 128], at: usize, p: Path) -> Node
             path: p,
         },
         Read::Next(next) => limits(file, at, mark, p, next),
-    }
-}
-
-// Reads a few nodes in a row, each followed by the next alone, and answers the last: so a long row takes few calls of `read_term`.
-fn read_row(file: &[u8], decl: &[u32; 128], start: usize, p: Path) -> Node
-    requires { ⌜ (start ≤ length (now file)) × (p .slots ≤ 32) × (p .nodes ≤ 64) ⌝ }
-    ensures { λ r. ⌜ InRow (now (file .entry)) (now (decl .entry)) start p r ⌝ }
-{
-    let mut at = start;
-    let mut path = p;
-    let mut k: usize = 0;
-    while k < 16 {
-        let n = read_node(file, decl, at, path);
-        let follows = n.then;
-        let inner = n.path;
-        match follows {
-            Then::One(next) => {
-                at = next;
-                path = inner;
-                k += 1;
-            }
-            _ => {
-                return n;
-            }
-        }
-    }
-    Node {
-        then: Then::One(at),
-        path: path,
     }
 }
 
@@ -346,7 +317,13 @@ fn branch_fields(file: &[u8], decl: &[u32; 128], at: usize, credit: usize, slots
 }
 
 // A branch's record at `at`: the slots after it, or the fault.
-fn read_branch(file: &[u8], decl: &[u32; 128], at: usize, credit: usize, slots: usize) -> Read
+pub(crate) fn read_branch(
+    file: &[u8],
+    decl: &[u32; 128],
+    at: usize,
+    credit: usize,
+    slots: usize,
+) -> Read
     requires { ⌜ (at ≤ length (now file)) × (credit ≤ 1) × (slots ≤ 32) ⌝ }
     ensures { λ r. ⌜ r ≡ branchAt (now (file .entry)) (now (decl .entry)) at credit slots ⌝ }
 {
@@ -364,7 +341,7 @@ fn read_term(file: &[u8], decl: &[u32; 128], at: usize, p: Path) -> Read
     requires { ⌜ (at ≤ length (now file)) × (p .slots ≤ 32) × (p .nodes ≤ 64) ⌝ }
     ensures { λ r. ⌜ From (now (file .entry)) (at + 1) r × ReadsTerm (now (file .entry)) (now (decl .entry)) at p r ⌝ }
 {
-    let n = read_row(file, decl, at, p);
+    let n = read_node(file, decl, at, p);
     let follows = n.then;
     let inner = n.path;
     match follows {
@@ -493,7 +470,7 @@ fn entry_word(k: u8, at: usize) -> u32
 }
 
 // This mark at a place: the place behind it, or the fault.
-fn expect_mark(file: &[u8], at: usize, mark: usize) -> Read
+pub(crate) fn expect_mark(file: &[u8], at: usize, mark: usize) -> Read
     requires { ⌜ at ≤ length (now file) ⌝ }
     ensures { λ r. ⌜ r ≡ expectAt (now (file .entry)) at mark ⌝ }
 {
@@ -518,7 +495,7 @@ fn finish(file: &[u8], at: usize) -> Read
 }
 
 // ND, and nothing behind it.
-fn read_end(file: &[u8], at: usize) -> Read
+pub(crate) fn read_end(file: &[u8], at: usize) -> Read
     requires { ⌜ at ≤ length (now file) ⌝ }
     ensures { λ r. ⌜ r ≡ endAt (now (file .entry)) at ⌝ }
 {
@@ -679,10 +656,10 @@ fn no_function(file: &[u8], decl: &[u32; 128], at: usize) -> Reached
     }
 }
 
-// The records of a file, with what they declare in the table.
-fn read_records(file: &[u8], decl: &mut [u32; 128]) -> Reached
+// The constructors and the functions of a file, with what they declare in the table, up to the first body.
+pub(crate) fn read_header(file: &[u8], decl: &mut [u32; 128]) -> Reached
     requires { ⌜ (length (now file) ≤ 4096) × (now decl ≡ tableWith [] [] []) ⌝ }
-    ensures { λ r. ⌜ Ends (now (file .entry)) (now (decl .exit)) (r .count) (r .at) (r .number) ⌝ }
+    ensures { λ r. ⌜ HeaderRead (now (file .entry)) (now (decl .exit)) r ⌝ }
 {
     let cons = read_cons(file, decl);
     if cons.number != 0 {
@@ -695,7 +672,19 @@ fn read_records(file: &[u8], decl: &mut [u32; 128]) -> Reached
     if funs.count == 0 {
         return no_function(file, decl, funs.at);
     }
-    read_bodies(file, decl, funs.at, funs.count)
+    funs
+}
+
+// The records of a file, with what they declare in the table.
+fn read_records(file: &[u8], decl: &mut [u32; 128]) -> Reached
+    requires { ⌜ (length (now file) ≤ 4096) × (now decl ≡ tableWith [] [] []) ⌝ }
+    ensures { λ r. ⌜ Ends (now (file .entry)) (now (decl .exit)) (r .count) (r .at) (r .number) ⌝ }
+{
+    let header = read_header(file, decl);
+    if header.number != 0 {
+        return header;
+    }
+    read_bodies(file, decl, header.at, header.count)
 }
 
 // The whole file, with what it declares in a table of 128 words and the count of its functions: word c < 64 is a constructor's arity, word

@@ -29,7 +29,7 @@ use Rattle.checker.specs.Ownership.{laidOf, creditsOf, branchOf}
 use Rattle.checker.specs.OwnershipReady.{spanned, Ready, Judged, extraBy, boundBy, ReadyAll, Seen, JudgedAll}
 use Rattle.checker.proofs.ownership.Spending.{slots-more}
 use Rattle.checker.proofs.ownership.Taking.{Scaled, sorts-scaled, alike-with}
-use Rattle.checker.proofs.ownership.Cycle.{stands-past, spanned-next, spanned-fault}
+use Rattle.checker.proofs.ownership.Cycle.{spanned-next, spanned-fault}
 
 -- ---- slots bound one after the other
 
@@ -278,12 +278,6 @@ more-eq o = rw (o .extra, o .arity, o .con)
 
 module _ {bytes decl : List ℕ} {at left credit seen result : ℕ} {slots : List Slot} {bound c k x : ℕ} {inner : List Slot}
     (o : Opened bytes decl at left credit seen slots bound c k x inner) where
-  pub more-fits : ReadyAll bytes decl at left credit result bound → bound + k + x ≤ 32
-  more-fits g = rw (o .extra, o .arity, o .con) (branch-low (o .some) g .3)
-
-  pub term-ready : ReadyAll bytes decl at left credit result bound → Ready bytes decl (at + 3) result (bound + k + x)
-  term-ready g = subst (λ n. Ready bytes decl (at + 3) result n) (sym (more-eq o)) (branch-ready (o .some) g)
-
   unseen : (g : ReadyAll bytes decl at left credit result bound) (list : List ℕ) → Seen list seen → tree.member (byteAt bytes (at + 2)) list ≡ false
   unseen g list s = s (byteAt bytes (at + 2)) ∙ ap (λ z. getD (bitsOf 64 seen) z false) (sym (o .con)) ∙ o .new
 
@@ -313,7 +307,7 @@ module _ {bytes decl : List ℕ} {at left credit seen result : ℕ} {slots : Lis
         → (checks (o .some) g (slotsOf (more (o .some) g) (slots-of g)) ≡ ok tt) × (n ≡ viewed (o .some) g .second)
     fine-told {n} e g = spanned-next (viewed (o .some) g .second) n (checks (o .some) g (slotsOf (more (o .some) g) (slots-of g))) (sym e ∙ told g)
 
-    pub rest-ready : {n : ℕ} → r ≡ Next n → ReadyAll bytes decl at left credit result bound → ReadyAll bytes decl n (left - 1) credit result bound
+    rest-ready : {n : ℕ} → r ≡ Next n → ReadyAll bytes decl at left credit result bound → ReadyAll bytes decl n (left - 1) credit result bound
     rest-ready {n} e g = record {
       file = g .file;
       declared = g .declared;
@@ -326,11 +320,6 @@ module _ {bytes decl : List ℕ} {at left credit seen result : ℕ} {slots : Lis
       few = g .few;
       flag = g .flag;
     }
-
-    pub rest-less : {n : ℕ} → r ≡ Next n → ReadyAll bytes decl at left credit result bound → at < n
-    rest-less {n} e g =
-        let s = stands-past (viewed (o .some) g .stands) in
-        omega (arith, s .0, viewed (o .some) g .here, fine-told e g .1)
 
     pub branch-judged : {n seen′ : ℕ} {s : Checked} → r ≡ Next n → seen′ ≡ bitOr seen (2 ^ c) → JudgedAll bytes decl n (left - 1) credit seen′ result slots bound s
         → JudgedAll bytes decl at left credit seen result slots bound s

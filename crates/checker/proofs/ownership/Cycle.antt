@@ -19,75 +19,15 @@ use Rattle.standing.specs.Bytes.{markAt}
 use Rattle.standing.specs.Stands.{Stands, Each, count}
 use Rattle.standing.specs.Stands as stands
 use Rattle.checker.specs.declared.ownership.Taken.{Taken}
-use Rattle.checker.specs.declared.ownership.Then.{Then}
-use Rattle.checker.specs.declared.ownership.Then.the-variants.{Leaf, One, Two, Many}
-use Rattle.checker.specs.declared.ownership.Row.{Row}
+use Rattle.checker.specs.declared.reading.Then.{Then}
+use Rattle.checker.specs.declared.reading.Then.the-variants.{Leaf, One, Two, Many}
 use Rattle.checker.specs.declared.ownership.Checked.{Checked}
 use Rattle.checker.specs.declared.ownership.Checked.the-variants.{Next, Fault}
 use Rattle.checker.specs.Slots.{slotsOf, keptOf}
-use Rattle.checker.specs.Ownership.{rowOf, takenOf, firstPlace, secondPlace, kindBy, thenOf}
-use Rattle.checker.specs.OwnershipReady.{spanned, Ready, Judged, Made, Behind, InRow, ReadyAll, JudgedAll}
+use Rattle.checker.specs.Ownership.{takenOf, kindBy, thenOf}
+use Rattle.checker.specs.OwnershipReady.{spanned, Ready, Judged, Made, ReadyAll, JudgedAll}
 use Rattle.checker.proofs.ownership.Taking.{alike-none}
 use Rattle.checker.proofs.ownership.Nodes.{Goes, node}
-
--- ---- a term ends behind its place, within the file
-module _ {file : File} {bytes : List ℕ} where
-  mutual
-    pub stands-past : {slots : ℕ} {t : Term} {next : ℕ} → Stands file bytes slots t next → (place-of t < next) × (place-of t + 3 ≤ length bytes)
-    stands-past (stands.GV m l e n) = (omega arith, omega arith)
-    stands-past (stands.AT m l e h q s) = let r = stands-past s in (omega arith, omega arith)
-    stands-past (stands.MK m l ec ek ls lc n h q s) = let r = stands-past s in (omega arith, omega arith)
-    stands-past (stands.CL m l e ls lf n h q s) = let r = stands-past s in (omega arith, omega arith)
-    stands-past (stands.TL m l e ls lf n q) = (omega arith, omega arith)
-    stands-past (stands.OP m l e n each) = let r = each-past each in (omega arith, omega arith)
-    stands-past (stands.LK m l e n each) = let r = each-past each in (omega arith, omega arith)
-    stands-past (stands.NU m l e h q s) = let r = stands-past s in (omega arith, omega arith)
-    stands-past (stands.AR m l eo ex ey h q s) = let r = stands-past s in (omega arith, omega arith)
-    stands-past (stands.IF m l e pt st pu su) = let r = stands-past st in let w = stands-past su in (omega arith, omega arith)
-
-    each-past : {slots : ℕ} {extra : Constructor → ℕ} {at : ℕ} {bs : Branches} {next : ℕ} → Each file bytes slots extra at bs next → at ≤ next
-    each-past (stands.end n) = omega arith
-    each-past (stands.BR e m l ec lc h q s each) = let r = stands-past s in let w = each-past each in omega arith
-
-pub ready-low : {bytes decl : List ℕ} {at result bound : ℕ} → Ready bytes decl at result bound → (at + 3 ≤ length bytes) × (at ≤ 4096)
-ready-low g =
-    let r = stands-past (g .stands) in
-    let s = g .declared .size in
-    let h = g .here in
-    (omega arith, omega arith)
-
--- the slots that a record names, one or two, lie within the file
-named-in : (m k p n : ℕ) → m ≡ k → secondPlace k p < n → secondPlace m p < n
-named-in m k p n e h = rw e h
-
-stands-named : {file : File} {bytes : List ℕ} {slots : ℕ} {t : Term} {next : ℕ} → Stands file bytes slots t next
-    → secondPlace (findMark (markAt bytes (place-of t))) (place-of t) < length bytes
-unfolding findMark markOf numberOf secondPlace pick
-stands-named {bytes = bytes} (stands.GV {p = p} m l e n) = let h : p + 2 < length bytes = omega arith in named-in (findMark (markAt bytes p)) 4 p (length bytes) (rw m) h
-stands-named {bytes = bytes} (stands.AT {p = p} m l e h q s) = let h : p + 2 < length bytes = omega arith in named-in (findMark (markAt bytes p)) 5 p (length bytes) (rw m) h
-stands-named {bytes = bytes} (stands.MK {p = p} m l ec ek ls lc n h q s) = let h : p + 2 < length bytes = omega arith in named-in (findMark (markAt bytes p)) 6 p (length bytes) (rw m) h
-stands-named {bytes = bytes} (stands.CL {p = p} m l e ls lf n h q s) = let h : p + 2 < length bytes = omega arith in named-in (findMark (markAt bytes p)) 7 p (length bytes) (rw m) h
-stands-named {bytes = bytes} (stands.TL {p = p} m l e ls lf n q) = let h : p + 2 < length bytes = omega arith in named-in (findMark (markAt bytes p)) 8 p (length bytes) (rw m) h
-stands-named {bytes = bytes} (stands.OP {p = p} m l e n each) = let h : p + 2 < length bytes = omega arith in named-in (findMark (markAt bytes p)) 9 p (length bytes) (rw m) h
-stands-named {bytes = bytes} (stands.LK {p = p} m l e n each) = let h : p + 2 < length bytes = omega arith in named-in (findMark (markAt bytes p)) 10 p (length bytes) (rw m) h
-stands-named {bytes = bytes} (stands.NU {p = p} m l e h q s) = let h : p + 2 < length bytes = omega arith in named-in (findMark (markAt bytes p)) 12 p (length bytes) (rw m) h
-stands-named {bytes = bytes} (stands.AR {p = p} m l eo ex ey h q s) = let h : p + 4 < length bytes = omega arith in named-in (findMark (markAt bytes p)) 13 p (length bytes) (rw m) h
-stands-named {bytes = bytes} (stands.IF {p = p} m l e pt st pu su) = let h : p + 2 < length bytes = omega arith in named-in (findMark (markAt bytes p)) 14 p (length bytes) (rw m) h
-
-first-low : (m at : ℕ) → firstPlace m at ≤ secondPlace m at
-unfolding firstPlace secondPlace pick
-first-low m at = go (eqb m 13)
-  where
-    go : (b : Bool) → pick b (at + 3) (at + 2) ≤ pick b (at + 4) (at + 2)
-    go true = omega arith
-    go false = omega arith
-
-pub ready-named : {bytes decl : List ℕ} {at result bound m p q : ℕ} → Ready bytes decl at result bound → m ≡ findMark (markAt bytes at) → p ≡ firstPlace m at → q ≡ secondPlace m at
-    → (p < length bytes) × (q < length bytes)
-ready-named {bytes} {at = at} {m = m} g em ep eq =
-    let l = first-low m at in
-    let h : secondPlace m at < length bytes = rw (em, ← (g .here)) (stands-named (g .stands)) in
-    (omega (arith, ep, l, h), omega (arith, eq, h))
 
 -- what an answer says of the check
 pub spanned-next : (n k : ℕ) (o : Outcome (Unit {0})) → Next k ≡ spanned n o → (o ≡ ok tt) × (k ≡ n)
@@ -140,7 +80,7 @@ module _ {bytes decl : List ℕ} {at result : ℕ} {slots : List Slot} {bound m 
         ap Next (v .0) ∙ sym (ap (spanned (g .next)) (v .1));
   }
 
-  pub one-ready : {n : ℕ} → f ≡ One n → Ready bytes decl at result bound → Ready bytes decl n result more
+  one-ready : {n : ℕ} → f ≡ One n → Ready bytes decl at result bound → Ready bytes decl n result more
   one-ready {n} e g =
       let v = viewed (One n) e g in
       record {
@@ -155,12 +95,6 @@ module _ {bytes decl : List ℕ} {at result : ℕ} {slots : List Slot} {bound m 
         few = room bytes decl at result slots (w .wide) bound g (w .mark) (w .count);
       }
 
-  pub one-less : {n : ℕ} → f ≡ One n → Ready bytes decl at result bound → at < n
-  one-less {n} e g =
-      let v = viewed (One n) e g in
-      let h = g .here in
-      omega (arith, v .2)
-
   pub one-judged : {n : ℕ} {r : Checked} → f ≡ One n → Judged bytes decl n result inner more r → Judged bytes decl at result slots bound r
   unfolding one-ready
   one-judged {n} {r} e j = record {
@@ -170,7 +104,7 @@ module _ {bytes decl : List ℕ} {at result : ℕ} {slots : List Slot} {bound m 
   }
 
   -- two terms, one after the other
-  pub two-ready : {n : ℕ} → f ≡ Two n → Ready bytes decl at result bound → Ready bytes decl n result more
+  two-ready : {n : ℕ} → f ≡ Two n → Ready bytes decl at result bound → Ready bytes decl n result more
   two-ready {n} e g =
       let v = viewed (Two n) e g in
       record {
@@ -184,12 +118,6 @@ module _ {bytes decl : List ℕ} {at result : ℕ} {slots : List Slot} {bound m 
         stands = v .5;
         few = room bytes decl at result slots (w .wide) bound g (w .mark) (w .count);
       }
-
-  pub two-less : {n : ℕ} → f ≡ Two n → Ready bytes decl at result bound → at < n
-  two-less {n} e g =
-      let v = viewed (Two n) e g in
-      let h = g .here in
-      omega (arith, v .4)
 
   pub two-stops : {n a b : ℕ} {r : Checked} → f ≡ Two n → Judged bytes decl n result inner more r → r ≡ Fault a b → Judged bytes decl at result slots bound (Fault a b)
   unfolding two-ready spanned
@@ -205,7 +133,7 @@ module _ {bytes decl : List ℕ} {at result : ℕ} {slots : List Slot} {bound m 
   unfolding two-ready
   two-told {n} {k} {r} e j q g = spanned-next (viewed (Two n) e g .2) k (check (g .file .constructors) (g .file .functions) (g .sort) (viewed (Two n) e g .0) (slotsOf more inner)) (sym q ∙ j .judged (two-ready e g))
 
-  pub second-ready : {n k : ℕ} {r : Checked} → f ≡ Two n → Judged bytes decl n result inner more r → r ≡ Next k → Ready bytes decl at result bound
+  second-ready : {n k : ℕ} {r : Checked} → f ≡ Two n → Judged bytes decl n result inner more r → r ≡ Next k → Ready bytes decl at result bound
       → Ready bytes decl k result more
   second-ready {n} {k} {r} e j q g =
       let v = viewed (Two n) e g in
@@ -221,13 +149,6 @@ module _ {bytes decl : List ℕ} {at result : ℕ} {slots : List Slot} {bound m 
         few = room bytes decl at result slots (w .wide) bound g (w .mark) (w .count);
       }
 
-  pub second-less : {n k : ℕ} {r : Checked} → f ≡ Two n → Judged bytes decl n result inner more r → r ≡ Next k → Ready bytes decl at result bound → at < k
-  second-less {n} {k} {r} e j q g =
-      let v = viewed (Two n) e g in
-      let h = g .here in
-      let l = stands-past (v .5) in
-      omega (arith, v .4, v .3, l .0, two-told e j q g .1)
-
   pub two-judged : {n k : ℕ} {r s : Checked} → f ≡ Two n → Judged bytes decl n result inner more r → r ≡ Next k → Judged bytes decl k result inner more s
       → Judged bytes decl at result slots bound s
   unfolding second-ready
@@ -239,7 +160,7 @@ module _ {bytes decl : List ℕ} {at result : ℕ} {slots : List Slot} {bound m 
   }
 
   -- branches
-  pub many-ready : {n left credit : ℕ} → f ≡ Many n left credit → Ready bytes decl at result bound → ReadyAll bytes decl n left credit result more
+  many-ready : {n left credit : ℕ} → f ≡ Many n left credit → Ready bytes decl at result bound → ReadyAll bytes decl n left credit result more
   many-ready {n} {left} {credit} e g =
       let v = viewed (Many n left credit) e g in
       record {
@@ -255,12 +176,6 @@ module _ {bytes decl : List ℕ} {at result : ℕ} {slots : List Slot} {bound m 
         flag = v .4;
       }
 
-  pub many-less : {n left credit : ℕ} → f ≡ Many n left credit → Ready bytes decl at result bound → at < n
-  many-less {n} {left} {credit} e g =
-      let v = viewed (Many n left credit) e g in
-      let h = g .here in
-      omega (arith, v .2)
-
   pub many-judged : {n left credit : ℕ} {r : Checked} → f ≡ Many n left credit → JudgedAll bytes decl n left credit 0 result inner more r → Judged bytes decl at result slots bound r
   unfolding many-ready
   many-judged {n} {left} {credit} {r} e j = record {
@@ -269,11 +184,7 @@ module _ {bytes decl : List ℕ} {at result : ℕ} {slots : List Slot} {bound m 
         j .judged (many-ready e g) [] (alike-none 64) ∙ sym (ap (spanned (g .next)) (v .5));
   }
 
--- the slots of a node fit, and a record that takes something wrong is the answer
-pub node-room : {bytes decl : List ℕ} {at result bound m b : ℕ} (slots : List Slot) → length slots ≡ 32 → Ready bytes decl at result bound → m ≡ findMark (markAt bytes at)
-    → b ≡ rowAt m .binds → bound + b ≤ 32
-node-room {bytes} {decl} {at} {result} {bound} slots wide g em eb = room bytes decl at result slots wide bound g em (ap (λ x. bound + x) eb)
-
+-- a record that takes something wrong is the answer
 pub node-stops : {bytes decl : List ℕ} {at result : ℕ} {slots : List Slot} {bound m : ℕ} {t : Taken} → length slots ≡ 32 → m ≡ findMark (markAt bytes at)
     → t ≡ takenOf bytes decl at slots bound m result → (t .number ≡ 0 → ⊥) → Judged bytes decl at result slots bound (Fault (t .number) (t .place))
 node-stops {bytes} {decl} {at} {result} {slots} {bound} wide em et n = stops bytes decl at result slots wide bound em et n
@@ -291,28 +202,3 @@ made {bound = bound} wide em et n eb ei ef = record {
   kept = ei;
   follows = ef;
 }
-
--- ---- a row of nodes
-module _ {bytes decl : List ℕ} {at result : ℕ} {slots : List Slot} {bound : ℕ} where
-  pub behind : {place have m more : ℕ} {left inner : List Slot} {t : Taken} {f h : Then} → at ≤ place → Ready bytes decl place result have
-      → Made bytes decl place result left have m t more inner f → f ≡ h
-      → ((r : Checked) → Judged bytes decl place result left have r → Judged bytes decl at result slots bound r) → Behind bytes decl at result slots bound more inner h
-  behind {place} {have} {m} {more} {left} {inner} {t} l g w e s = record {
-    place = place;
-    left = left;
-    have = have;
-    mark = m;
-    took = t;
-    later = l;
-    ready = g;
-    made = subst (λ x. Made bytes decl place result left have m t more inner x) e w;
-    same = s;
-  }
-
-  pub row-stops : (t : Taken) {r : Row} {f : Then} {left : List Slot} {have : ℕ} → r ≡ rowOf t f left have → (t .number ≡ 0 → ⊥)
-      → Judged bytes decl at result slots bound (Fault (t .number) (t .place)) → InRow bytes decl at result slots bound r
-  row-stops t e n j = subst (λ x. InRow bytes decl at result slots bound x) (sym e) (record { stops = λ _. j; goes = λ z. absurd (n z) })
-
-  pub row-ends : (t : Taken) {r : Row} {f : Then} {inner : List Slot} {more : ℕ} → r ≡ rowOf t f inner more → t .number ≡ 0
-      → Behind bytes decl at result slots bound more inner f → InRow bytes decl at result slots bound r
-  row-ends t e z b = subst (λ x. InRow bytes decl at result slots bound x) (sym e) (record { stops = λ n. absurd (n z); goes = λ _. b })

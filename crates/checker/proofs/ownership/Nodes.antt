@@ -23,16 +23,16 @@ use Rattle.meaning.specs.Ownership as tree
 use Rattle.standing.specs.Bytes.{byteAt, markAt, arityIn, fieldsIn, paramsIn, modesIn}
 use Rattle.standing.specs.Stands.{Listed, Stands, Each, count}
 use Rattle.standing.specs.Stands as stands
-use Rattle.standing.specs.Table.{Declared, sort-byte}
+use Rattle.standing.specs.Table.{sort-byte}
 use Rattle.checker.specs.declared.slots.Want.{Want}
 use Rattle.checker.specs.declared.slots.Want.the-variants as want
 use Rattle.checker.specs.declared.ownership.Taken.{Taken}
-use Rattle.checker.specs.declared.ownership.Then.{Then}
-use Rattle.checker.specs.declared.ownership.Then.the-variants.{Leaf, One, Two, Many}
+use Rattle.checker.specs.declared.reading.Then.{Then}
+use Rattle.checker.specs.declared.reading.Then.the-variants.{Leaf, One, Two, Many, Fault}
 use Rattle.checker.specs.OwnershipBits.{bitsOf}
 use Rattle.checker.specs.Slots.{kindOf, usedIn, slotsOf, spentBy, nowKind, unbound, bound-slot, wantOf, wantBack, testOf, kindAt, keptOf}
 use Rattle.checker.specs.Ownership.{fine, fault, onFine, takeKind, takeOf, takeAt, listOf, closeOf, giveOf, pairOf, makeOf, callOf, tailOf, takenOf, resultIn, kindBy, namedBy, pastOf, thenOf}
-use Rattle.checker.specs.OwnershipReady.{extraBy, boundBy}
+use Rattle.checker.specs.OwnershipReady.{Known, extraBy, boundBy}
 use Rattle.checker.proofs.ownership.Spending.{slots-more, spent-length, leftOf, left-all}
 use Rattle.checker.proofs.ownership.Taking.{told, told-then, take-tells, list-tells, alike-none, modes-scaled, sorts-scaled, leafed, close-tells}
 
@@ -65,7 +65,7 @@ and-false : (b : Bool) → (b && false) ≡ false
 and-false true = refl
 and-false false = refl
 
-module _ (file : File) (bytes decl : List ℕ) (d : Declared file bytes decl) (sort : Sort) (slots : List Slot) (wide : length slots ≡ 32) (bound : ℕ) (few : bound ≤ 32) where
+module _ (file : File) (bytes decl : List ℕ) (d : Known file bytes decl) (sort : Sort) (slots : List Slot) (wide : length slots ≡ 32) (bound : ℕ) (few : bound ≤ 32) where
   abbrev checked : Term → tree.Slots → Outcome (Unit {0})
   checked = check (file .constructors) (file .functions) sort
 
@@ -80,6 +80,7 @@ module _ (file : File) (bytes decl : List ℕ) (d : Declared file bytes decl) (s
   Goes (Many n left credit) t next more inner =
       (bs : Branches) × (count bs ≡ left) × (place-of t < n) × Each file bytes more (extraBy credit) n bs next × (credit ≤ 1)
       × (checked t (slotsOf bound slots) ≡ check-branches (file .constructors) (file .functions) sort bs (boundBy credit) [] (slotsOf more inner))
+  Goes (Fault x q) t next more inner = ⊥
 
   abbrev pub takes : (m : ℕ) → Term → Taken
   takes m t = takenOf bytes decl (place-of t) slots bound m (sort-byte sort)

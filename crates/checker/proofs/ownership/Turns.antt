@@ -68,9 +68,6 @@ module _ (k now : Kind) (i p : ℕ) (w : Want) (barred gone : Bool) (spent n : �
 pub bars-here : (w : Want) (earlier i : ℕ) (s h : Bool) → s ≡ spendsOf w → s ≡ true → h ≡ getD (bitsOf 32 earlier) i false → h ≡ barsOf w earlier i
 bars-here w earlier i s h e t q = let z : spendsOf w ≡ true = sym e ∙ t in rw z q
 
-pub bars-not : (w : Want) (earlier i : ℕ) (s : Bool) → s ≡ spendsOf w → s ≡ false → false ≡ barsOf w earlier i
-bars-not w earlier i s e t = let z : spendsOf w ≡ false = sym e ∙ t in rw z
-
 -- ---- one thing taken, and then another
 pub on-stops : (t u v : Taken) → t ≡ u → (t .number ≡ 0 → ⊥) → t ≡ onFine u v
 unfolding onFine pick
@@ -164,14 +161,6 @@ pub kept-all : (slots out : List Slot) (spent bound more : ℕ) (k : Kind) (at :
 unfolding keptOf pick
 kept-all slots out spent bound more k at e l = let q : ltb bound more ≡ false = le-ltb bound more l in rw (q, e)
 
-pub kept-wide : (slots out : List Slot) (spent bound more : ℕ) (k : Kind) (at : ℕ) → out ≡ keptOf slots spent bound more k at → length slots ≡ 32 → length out ≡ 32
-unfolding keptOf pick
-kept-wide slots out spent bound more k at e w = ap length e ∙ go (ltb bound more) ∙ w
-  where
-    go : (b : Bool) → length (pick b (set (spentBy (bitsOf 32 spent) slots) bound (bound-slot k at)) (spentBy (bitsOf 32 spent) slots)) ≡ length slots
-    go true = length-set (spentBy (bitsOf 32 spent) slots) bound (bound-slot k at) ∙ spent-length (bitsOf 32 spent) slots
-    go false = spent-length (bitsOf 32 spent) slots
-
 -- ---- what is left over
 drop-slots : (n : ℕ) (xs : List Slot) (i : ℕ) → i < n → drop i (slotsOf n xs) ≡ slotOf (getD xs i unbound) ∷ drop (suc i) (slotsOf n xs)
 unfolding slotsOf
@@ -204,11 +193,6 @@ module _ (slots : List Slot) (spent bound : ℕ) where
 
     pub left-later : left ≡ false → tree.leftover (rest i) ≡ tree.leftover (rest (i + 1))
     left-later e = left-is ∙ rw (e, add-one i)
-
--- ---- where a record ends
-pub past-is : (bytes decl : List ℕ) (at m w n : ℕ) (row : MarkRow) → row ≡ rowAt m → w ≡ row .fields → n ≡ namedBy bytes decl at m → at + 2 + w + n ≡ pastOf bytes decl at m
-unfolding pastOf
-past-is bytes decl at m w n row er ew en = rw (ew, er, en)
 
 -- ---- the same in the turns of the code's loops
 pub scaled-small : (b s : ℕ) → b < 256 → s ≤ 2 → b * s ≤ 512

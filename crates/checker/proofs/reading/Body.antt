@@ -13,10 +13,13 @@ use borrow.Author.Tests.{leb-true, leb-false, ltb-true, ltb-false, eqb-true, eqb
 use Rattle.meaning.specs.Choice.{pick}
 use Rattle.meaning.specs.Syntax.{Sort, Signature, Constructor, Term, File}
 use Rattle.meaning.specs.Outcome.{Outcome, ok, refuse, then}
-use Rattle.meaning.specs.Plain.{place-of}
+use Rattle.meaning.specs.Plain.{place-of, no-body}
+use Rattle.meaning.specs.Machine.{body-of}
 use Rattle.meaning.specs.Marks.{Mark, CN, FN, BD, numberOf, markOf, findMark}
 use Rattle.meaning.specs.Reading.{ensure, expect, term, header, bodies, between, finish, read}
 use Rattle.meaning.proofs.Table.{is-BD, is-ND}
+use Rattle.theory.proofs.Taking.{steps-ok}
+use Rattle.theory.proofs.Taking as taking
 use Rattle.standing.specs.Bytes.{markAt}
 use Rattle.standing.specs.Table.{tableOf}
 use Rattle.standing.proofs.Readers.{two-gen, ensure-gen}
@@ -192,6 +195,9 @@ one-more {X} (ok u) b cs fs done t = go (b u)
     go (ok r) = ap (λ l. ok (make cs fs l)) (sym (append-assoc done (t ∷ []) (r .0)))
     go (refuse x p) = refl
 
+ok-is : {A : Type 0} {a b : A} → ok a ≡ ok b → a ≡ b
+ok-is e = cc
+
 -- ---- a list's entry
 nobody : Signature
 nobody = record { parameters = []; result = Sort.number }
@@ -200,6 +206,10 @@ nth-some : {A : Type 0} (xs : List A) (j : ℕ) (e : A) → j < length xs → ge
 nth-some [] j e h = absurd (omega arith)
 nth-some (x ∷ xs) zero e h = refl
 nth-some (x ∷ xs) (suc j) e h = nth-some xs j e (omega arith)
+
+nth-here : {A : Type 0} (xs : List A) (y : A) (ys : List A) (e : A) → getD (xs ++ (y ∷ ys)) (length xs) e ≡ y
+nth-here [] y ys e = refl
+nth-here (x ∷ xs) y ys e = nth-here xs y ys e
 
 map-more : {A B : Type 0} (g : A → B) (xs : List A) (x : A) → map g (xs ++ (x ∷ [])) ≡ map g xs ++ (g x ∷ [])
 map-more g [] x = refl
@@ -333,6 +343,35 @@ module _ (f d : List ℕ) (count j at : ℕ) (C : Bodied f d count j at) (h : j 
       within : (expectAt f at 2 ≡ Next (at + 2)) × ReadsTerm f d (at + 2) (path (knownCount d j) 0) (Next n) → Bodied f (set d (96 + j) (at + 2)) count (j + 1) n
       within m = let t = span-next (term-spans (m .0)) (told (Next n) (m .0) (m .1)) in goes (t .0) (m .0) (t .1)
 
+  -- a file that is read has these declarations, and its j-th body stands behind the BD
+  abbrev pub Here : File → Type 0
+  Here file = (file .constructors ≡ C .constructors) × (file .functions ≡ C .functions) × (place-of (body-of file j) ≡ at + 2)
+
+  pub body-here : (file : File) → read f ≡ ok file → Here file
+  unfolding ReadsBody cs fs make this-term
+  body-here file e = go (expectAt f at 2) refl
+    where
+      made : (t : Term) (s z : List Term × ℕ × List ℕ) → place-of t ≡ at + 2 → ok (t ∷ z .0, z .1, z .2) ≡ ok s → last (C .terms) s ≡ ok file → Here file
+      made t s z p e₁ e₂ =
+          let q : make cs fs (C .terms ++ (t ∷ z .0)) ≡ file = ap (λ r. make cs fs (C .terms ++ r .0)) (ok-is e₁) ∙ ok-is e₂ in (
+            sym (ap (λ x. x .constructors) q),
+            sym (ap (λ x. x .functions) q),
+            ap place-of (sym (ap (λ x. getD (x .bodies) j no-body) q) ∙ ap (λ i. getD (C .terms ++ (t ∷ z .0)) i no-body) (sym (C .done)) ∙ nth-here (C .terms) t (z .0) no-body) ∙ p,
+          )
+
+      within : expectAt f at 2 ≡ Next (at + 2) → Here file
+      within q =
+          let u = steps-ok (then this-term behind) (last (C .terms)) (sym (reads-term q) ∙ e) in
+          let v = steps-ok this-term behind (u .1) in
+          let w = steps-ok (between rest (v .0 .1) (v .0 .2)) _ (v .2) in
+          let y = steps-ok (bodies (length f) cs fs rest (w .0 .1) (w .0 .2)) _ (w .2) in
+          let p = term-place cs fs (length f) (length (this .parameters)) 0 (at + 2) (drop (at + 2) f) (v .0 .0) (v .0 .1) (v .0 .2) (v .1) in
+          made (v .0 .0) (u .0) (y .0) p (y .2) (u .2)
+
+      go : (r : Read) → expectAt f at 2 ≡ r → Here file
+      go (Fault x p) q = absurd (taking.refused (sym (body-fails x p (inl (x, p, q, refl))) ∙ e))
+      go (Next n) q = let x = expect-next f at 2 n q in within (q ∙ ap Next (x .0))
+
 -- ---- the end of the file
 data Empty : Outcome (List Term × ℕ × List ℕ) → Type 0 where
   empty : {n : ℕ} {rest : List ℕ} → Empty (ok ([], n, rest))
@@ -366,7 +405,7 @@ from-expect f at m h =
 pub expect-off : (f : List ℕ) (at m x p lo : ℕ) → at ≤ length f → expectAt f at m ≡ Fault x p → From f lo (Fault x p)
 expect-off f at m x p lo h e = let z = from-fault e (from-expect f at m h) in off (z .0) (z .1)
 
-from-end : (f : List ℕ) (at : ℕ) → at ≤ length f → From f at (endAt f at)
+pub from-end : (f : List ℕ) (at : ℕ) → at ≤ length f → From f at (endAt f at)
 unfolding endAt onNext finishAt
 from-end f at h = go (expectAt f at 3) (from-expect f at 3 h)
   where

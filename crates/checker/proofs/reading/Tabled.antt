@@ -20,7 +20,7 @@ unfolding con-end
 con-end-more at [] c = refl
 con-end-more at (x ∷ cs) c = con-end-more (at + 3 + length x) cs c
 
-con-count : (at : ℕ) (cs : List Constructor) → length (con-words at cs) ≡ length cs
+pub con-count : (at : ℕ) (cs : List Constructor) → length (con-words at cs) ≡ length cs
 unfolding con-words
 con-count at [] = refl
 con-count at (x ∷ cs) = ap suc (con-count (at + 3 + length x) cs)
@@ -35,7 +35,7 @@ unfolding fun-end
 fun-end-more at [] g = refl
 fun-end-more at (x ∷ fs) g = fun-end-more (at + 4 + length (x .parameters)) fs g
 
-fun-count : (at : ℕ) (fs : List Signature) → length (fun-words at fs) ≡ length fs
+pub fun-count : (at : ℕ) (fs : List Signature) → length (fun-words at fs) ≡ length fs
 unfolding fun-words
 fun-count at [] = refl
 fun-count at (x ∷ fs) = ap suc (fun-count (at + 4 + length (x .parameters)) fs)
@@ -49,7 +49,7 @@ fill-next n ws w h =
     ap (λ j. set (ws ++ replicate j 255) (length ws) w) e ∙ set-append-seam ws 255 (replicate (n - suc (length ws)) 255) w
     ∙ sym (ap (λ j. ws ++ (w ∷ []) ++ replicate j 255) q ∙ append-assoc ws (w ∷ []) (replicate (n - suc (length ws)) 255))
 
-fill-wide : (n : ℕ) (ws : List ℕ) → length ws ≤ n → length (filled n ws) ≡ n
+pub fill-wide : (n : ℕ) (ws : List ℕ) → length ws ≤ n → length (filled n ws) ≡ n
 unfolding filled
 fill-wide n ws h =
     let blanks : List ℕ = replicate (n - length ws) 255 in

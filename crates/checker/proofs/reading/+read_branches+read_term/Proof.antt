@@ -9,7 +9,7 @@ use Rattle.checker.proofs.reading.read_term.Reads as read-term
 use Rattle.checker.proofs.reading.read_term.Kinds as read-term-kinds
 use Rattle.checker.proofs.reading.+read_branches+read_term.Lts-read_term as read-term-lts
 use Rattle.checker.proofs.reading.read_branch.Reads as read-branch-reads
-use Rattle.checker.proofs.reading.read_row.Reads as read-row-reads
+use Rattle.checker.proofs.reading.read_node.Reads as read-node-reads
 use Rattle.checker.proofs.reading.+read_branches+read_term.{statement}
 use Rattle.checker.proofs.reading.+read_branches+read_term.Tie.{close}
 use native.Mathlib.Omega.{arith}
@@ -49,7 +49,7 @@ abbrev read-branches-calls : ℕ → read-branches-lts.Claims
 read-branches-calls t = (read-branch-reads.Asked, read-branch-reads.Learnt, read-term-below t, read-term.Post)
 
 abbrev read-term-calls : ℕ → read-term-lts.Claims
-read-term-calls t = (read-row-reads.Asked, read-row-reads.Learnt, read-term-below t, read-term.Post, read-branches-below t, read-branches.Post)
+read-term-calls t = (read-node-reads.Asked, read-node-reads.Learnt, read-term-below t, read-term.Post, read-branches-below t, read-branches.Post)
 
 abbrev read-branches-Inv-loop : read-branches-lts.InvT-loop
 read-branches-Inv-loop file decl start count credit p at₀ left₀ at left =
@@ -118,8 +118,8 @@ read-branches-returns-2 t c =
 read-branches-returns-3 : (t : ℕ) → read-branches-lts.Need-returns-3 (read-branches-calls t) (read-branches-at t) read-branches.Post read-branches-Inv-loop read-branches-μ-loop
 read-branches-returns-3 t c = (from-late (c .before .loop .inv .0) (from-here (c .before .loop .inv .1)), c .before .loop .inv .2 _ (end-reads _ _ _ _ _ (c .before .loop .inv .1) (c .before .before .before .pre .1 .3) _ (c .loop-test .left)))
 
-read-term-read-row-requires : (t : ℕ) → read-term-lts.Need-read-row-requires (read-term-calls t) (read-term-at t) read-term.Post
-read-term-read-row-requires t c κs = c .before .pre .1
+read-term-read-node-requires : (t : ℕ) → read-term-lts.Need-read-node-requires (read-term-calls t) (read-term-at t) read-term.Post
+read-term-read-node-requires t c κs = c .before .pre .1
 
 read-term-enum-known-follows : (t : ℕ) → read-term-lts.Need-enum-known-follows (read-term-calls t) (read-term-at t) read-term.Post
 read-term-enum-known-follows t c = search needs
@@ -129,31 +129,34 @@ read-term-enum-known-follows-2 t c = search needs
 
 read-term-read-term-requires : (t : ℕ) → read-term-lts.Need-read-term-requires (read-term-calls t) (read-term-at t) read-term.Post
 read-term-read-term-requires t c κs =
-    let w = c .before .before .before .before .read-row .ensures in
-    let g = goes _ _ _ _ _ (w .node) (w .inside) (w .slots) (w .nodes) in
+    let e = c .before .before .before .before .read-node .ensures in
+    let w = c .before .before .before .before .before .before .pre .1 in
+    let g = goes _ _ _ _ _ e (w .0) (w .1) (w .2) in
     let x = one-of (c .before .follows2 .given .1) (g .ahead) in
-    (omega (arith, w .later, x .0, x .1), (x .1, g .slots, g .nodes))
+    (omega (arith, x .0, x .1), (x .1, g .slots, g .nodes))
 
 read-term-enum-known-follows-3 : (t : ℕ) → read-term-lts.Need-enum-known-follows-3 (read-term-calls t) (read-term-at t) read-term.Post
 read-term-enum-known-follows-3 t c = search needs
 
 read-term-read-term-requires-2 : (t : ℕ) → read-term-lts.Need-read-term-requires-2 (read-term-calls t) (read-term-at t) read-term.Post
 read-term-read-term-requires-2 t c κs =
-    let w = c .before .before .before .before .read-row .ensures in
-    let g = goes _ _ _ _ _ (w .node) (w .inside) (w .slots) (w .nodes) in
+    let e = c .before .before .before .before .read-node .ensures in
+    let w = c .before .before .before .before .before .before .pre .1 in
+    let g = goes _ _ _ _ _ e (w .0) (w .1) (w .2) in
     let x = two-of (c .before .follows3 .given .1) (g .ahead) in
-    (omega (arith, w .later, x .0, x .1), (x .1, g .slots, g .nodes))
+    (omega (arith, x .0, x .1), (x .1, g .slots, g .nodes))
 
 read-term-enum-known-second : (t : ℕ) → read-term-lts.Need-enum-known-second (read-term-calls t) (read-term-at t) read-term.Post
 read-term-enum-known-second t c = search needs
 
 read-term-read-term-requires-3 : (t : ℕ) → read-term-lts.Need-read-term-requires-3 (read-term-calls t) (read-term-at t) read-term.Post
 read-term-read-term-requires-3 t c κs =
-    let w = c .before .before .before .before .before .before .before .before .read-row .ensures in
-    let g = goes _ _ _ _ _ (w .node) (w .inside) (w .slots) (w .nodes) in
+    let e = c .before .before .before .before .before .before .before .before .read-node .ensures in
+    let w = c .before .before .before .before .before .before .before .before .before .before .pre .1 in
+    let g = goes _ _ _ _ _ e (w .0) (w .1) (w .2) in
     let x = two-of (c .before .before .before .before .before .follows3 .given .1) (g .ahead) in
     let y = from-next (c .before .second .given .1) (c .before .before .before .read-term2 .ensures .0) in
-    (omega (arith, w .later, x .0, x .1, y .0, y .1), (y .1, g .slots, g .nodes))
+    (omega (arith, x .0, x .1, y .0, y .1), (y .1, g .slots, g .nodes))
 
 read-term-enum-known-number : (t : ℕ) → read-term-lts.Need-enum-known-number (read-term-calls t) (read-term-at t) read-term.Post
 read-term-enum-known-number t c = search needs
@@ -163,57 +166,64 @@ read-term-enum-known-follows-4 t c = search needs
 
 read-term-read-branches-requires : (t : ℕ) → read-term-lts.Need-read-branches-requires (read-term-calls t) (read-term-at t) read-term.Post
 read-term-read-branches-requires t c κs =
-    let w = c .before .before .before .before .read-row .ensures in
-    let g = goes _ _ _ _ _ (w .node) (w .inside) (w .slots) (w .nodes) in
+    let e = c .before .before .before .before .read-node .ensures in
+    let w = c .before .before .before .before .before .before .pre .1 in
+    let g = goes _ _ _ _ _ e (w .0) (w .1) (w .2) in
     let x = many-of (c .before .follows4 .given .1) (g .ahead) in
-    (omega (arith, w .later, x .0, x .1), (x .1, x .2, g .slots, g .nodes))
+    (omega (arith, x .0, x .1), (x .1, x .2, g .slots, g .nodes))
 
 read-term-enum-known-follows-5 : (t : ℕ) → read-term-lts.Need-enum-known-follows-5 (read-term-calls t) (read-term-at t) read-term.Post
 read-term-enum-known-follows-5 t c = search needs
 
 read-term-returns : (t : ℕ) → read-term-lts.Need-returns (read-term-calls t) (read-term-at t) read-term.Post
 read-term-returns t c =
-    let w = c .before .before .before .before .read-row .ensures in
-    let g = goes _ _ _ _ _ (w .node) (w .inside) (w .slots) (w .nodes) in
+    let e = c .before .before .before .before .read-node .ensures in
+    let w = c .before .before .before .before .before .before .pre .1 in
+    let g = goes _ _ _ _ _ e (w .0) (w .1) (w .2) in
     let x = leaf-of (c .before .follows .given .1) (g .ahead) in
-    (from-late (omega (arith, w .later)) (from-on x), w .same _ (leaf-reads _ _ _ _ (w .inside) _ (w .node) _ (c .before .follows .given .1)))
+    (from-on x, (leaf-reads _ _ _ _ (w .0) _ e _ (c .before .follows .given .1)))
 
 read-term-returns-2 : (t : ℕ) → read-term-lts.Need-returns-2 (read-term-calls t) (read-term-at t) read-term.Post
 read-term-returns-2 t c =
-    let w = c .before .before .before .before .before .read-row .ensures in
-    let g = goes _ _ _ _ _ (w .node) (w .inside) (w .slots) (w .nodes) in
+    let e = c .before .before .before .before .before .read-node .ensures in
+    let w = c .before .before .before .before .before .before .before .pre .1 in
+    let g = goes _ _ _ _ _ e (w .0) (w .1) (w .2) in
     let x = one-of (c .before .before .follows2 .given .1) (g .ahead) in
-    (from-past (omega (arith, w .later, x .0)) (c .read-term .ensures .0), w .same _ (one-reads _ _ _ _ (w .inside) _ (w .node) _ _ (c .before .before .follows2 .given .1) (x .0) (x .1) (c .read-term .ensures .1)))
+    (from-past (omega (arith, x .0)) (c .read-term .ensures .0), (one-reads _ _ _ _ (w .0) _ e _ _ (c .before .before .follows2 .given .1) (x .0) (x .1) (c .read-term .ensures .1)))
 
 read-term-returns-3 : (t : ℕ) → read-term-lts.Need-returns-3 (read-term-calls t) (read-term-at t) read-term.Post
 read-term-returns-3 t c =
-    let w = c .before .before .before .before .before .before .before .before .before .read-row .ensures in
-    let g = goes _ _ _ _ _ (w .node) (w .inside) (w .slots) (w .nodes) in
+    let e = c .before .before .before .before .before .before .before .before .before .read-node .ensures in
+    let w = c .before .before .before .before .before .before .before .before .before .before .before .pre .1 in
+    let g = goes _ _ _ _ _ e (w .0) (w .1) (w .2) in
     let x = two-of (c .before .before .before .before .before .before .follows3 .given .1) (g .ahead) in
     let y = from-next (c .before .before .second .given .1) (c .before .before .before .before .read-term2 .ensures .0) in (
-      from-past (omega (arith, w .later, x .0, y .0)) (c .read-term3 .ensures .0),
-      w .same _ (two-reads _ _ _ _ (w .inside) _ (w .node) _ _ _ (c .before .before .before .before .before .before .follows3 .given .1) (x .0) (omega (arith, y .0)) (y .1) (subst (ReadsTerm _ _ _ _) (c .before .before .second .given .1) (c .before .before .before .before .read-term2 .ensures .1)) (c .read-term3 .ensures .1)),
+      from-past (omega (arith, x .0, y .0)) (c .read-term3 .ensures .0),
+      (two-reads _ _ _ _ (w .0) _ e _ _ _ (c .before .before .before .before .before .before .follows3 .given .1) (x .0) (omega (arith, y .0)) (y .1) (subst (ReadsTerm _ _ _ _) (c .before .before .second .given .1) (c .before .before .before .before .read-term2 .ensures .1)) (c .read-term3 .ensures .1)),
     )
 
 read-term-returns-4 : (t : ℕ) → read-term-lts.Need-returns-4 (read-term-calls t) (read-term-at t) read-term.Post
 read-term-returns-4 t c =
-    let w = c .before .before .before .before .before .before .before .before .read-row .ensures in
-    let g = goes _ _ _ _ _ (w .node) (w .inside) (w .slots) (w .nodes) in
+    let e = c .before .before .before .before .before .before .before .before .read-node .ensures in
+    let w = c .before .before .before .before .before .before .before .before .before .before .pre .1 in
+    let g = goes _ _ _ _ _ e (w .0) (w .1) (w .2) in
     let x = two-of (c .before .before .before .before .before .follows3 .given .1) (g .ahead) in
-    (from-off (c .before .number .given .1) (c .before .before .before .read-term2 .ensures .0), w .same _ (two-stops _ _ _ _ (w .inside) _ (w .node) _ _ _ (c .before .before .before .before .before .follows3 .given .1) (x .0) (x .1) (subst (ReadsTerm _ _ _ _) (c .before .number .given .1) (c .before .before .before .read-term2 .ensures .1))))
+    (from-off (c .before .number .given .1) (c .before .before .before .read-term2 .ensures .0), (two-stops _ _ _ _ (w .0) _ e _ _ _ (c .before .before .before .before .before .follows3 .given .1) (x .0) (x .1) (subst (ReadsTerm _ _ _ _) (c .before .number .given .1) (c .before .before .before .read-term2 .ensures .1))))
 
 read-term-returns-5 : (t : ℕ) → read-term-lts.Need-returns-5 (read-term-calls t) (read-term-at t) read-term.Post
 read-term-returns-5 t c =
-    let w = c .before .before .before .before .before .read-row .ensures in
-    let g = goes _ _ _ _ _ (w .node) (w .inside) (w .slots) (w .nodes) in
+    let e = c .before .before .before .before .before .read-node .ensures in
+    let w = c .before .before .before .before .before .before .before .pre .1 in
+    let g = goes _ _ _ _ _ e (w .0) (w .1) (w .2) in
     let x = many-of (c .before .before .follows4 .given .1) (g .ahead) in
-    (from-at (omega (arith, w .later, x .0)) (c .read-branches .ensures .0), w .same _ (many-reads _ _ _ _ (w .inside) _ (w .node) _ _ _ _ (c .before .before .follows4 .given .1) (x .0) (x .1) (c .read-branches .ensures .1)))
+    (from-at (omega (arith, x .0)) (c .read-branches .ensures .0), (many-reads _ _ _ _ (w .0) _ e _ _ _ _ (c .before .before .follows4 .given .1) (x .0) (x .1) (c .read-branches .ensures .1)))
 
 read-term-returns-6 : (t : ℕ) → read-term-lts.Need-returns-6 (read-term-calls t) (read-term-at t) read-term.Post
 read-term-returns-6 t c =
-    let w = c .before .before .before .before .read-row .ensures in
-    let g = goes _ _ _ _ _ (w .node) (w .inside) (w .slots) (w .nodes) in
-    (fault-of (c .before .follows5 .given .1) (g .ahead), w .same _ (fault-reads _ _ _ _ (w .inside) _ (w .node) _ _ (c .before .follows5 .given .1)))
+    let e = c .before .before .before .before .read-node .ensures in
+    let w = c .before .before .before .before .before .before .pre .1 in
+    let g = goes _ _ _ _ _ e (w .0) (w .1) (w .2) in
+    (fault-of (c .before .follows5 .given .1) (g .ahead), (fault-reads _ _ _ _ (w .0) _ e _ _ (c .before .follows5 .given .1)))
 
 pub +read-branches+read-term-spec : {M : Type 1} → statement M
 +read-branches+read-term-spec = close μ-read-branches μ-read-term (λ t. read-branches-lts.spec (read-branches-calls t)
@@ -238,7 +248,7 @@ pub +read-branches+read-term-spec : {M : Type 1} → statement M
     λ t. read-term-lts.spec (read-term-calls t)
     (read-term-at t)
     read-term.Post
-    (read-term-read-row-requires t)
+    (read-term-read-node-requires t)
     (read-term-enum-known-follows t)
     (read-term-enum-known-follows-2 t)
     (read-term-read-term-requires t)

@@ -1,0 +1,418 @@
+-- `checker::bodies::check_term` and `check_branches` meet their contracts; bytes left fall. Assumes nothing.
+use Prim.Native.Nat.{ℕ, _<_}
+use borrow.Fn.Kinds.{In}
+use borrow.Fn.PlainCycle.{Measures, is, falls, and}
+use Rattle.checker.proofs.bodies.check_branches.Reads as check-branches
+use Rattle.checker.proofs.bodies.check_branches.Kinds as check-branches-kinds
+use Rattle.checker.proofs.bodies.+check_branches+check_term.Lts-check_branches as check-branches-lts
+use Rattle.checker.proofs.bodies.check_term.Reads as check-term
+use Rattle.checker.proofs.bodies.check_term.Kinds as check-term-kinds
+use Rattle.checker.proofs.bodies.+check_branches+check_term.Lts-check_term as check-term-lts
+use Rattle.checker.proofs.bodies.plain_row.Reads as plain-row-reads
+use Rattle.checker.proofs.ownership.bound_kind.Reads as bound-kind-reads
+use Rattle.checker.proofs.ownership.branch_slots.Reads as branch-slots-reads
+use Rattle.checker.proofs.ownership.byte.Reads as byte-reads
+use Rattle.checker.proofs.ownership.first_place.Reads as first-place-reads
+use Rattle.checker.proofs.ownership.mark.Reads as mark-reads
+use Rattle.checker.proofs.ownership.second_place.Reads as second-place-reads
+use Rattle.checker.proofs.ownership.seeing.Reads as seeing-reads
+use Rattle.checker.proofs.ownership.sees.Reads as sees-reads
+use Rattle.checker.proofs.ownership.slot_index.Reads as slot-index-reads
+use Rattle.checker.proofs.ownership.take_many.Reads as take-many-reads
+use Rattle.checker.proofs.ownership.take_named.Reads as take-named-reads
+use Rattle.checker.proofs.ownership.takes_many.Reads as takes-many-reads
+use Rattle.checker.proofs.reading.read_branch.Reads as read-branch-reads
+use Rattle.checker.proofs.reading.read_node.Reads as read-node-reads
+use Rattle.checker.proofs.slots.spend.Reads as spend-reads
+use Rattle.checker.proofs.bodies.+check_branches+check_term.{statement}
+use Rattle.checker.proofs.bodies.+check_branches+check_term.Tie.{close}
+use native.Mathlib.Omega.{arith}
+use borrow.Author.Needs.{needs}
+use Prim.Native.Nat.{_-_, _≤_}
+use mathlib.Core.Path.{_≡_, sym, subst, ap, _∙_}
+use mathlib.Core.Logic.{⊎-elim}
+use lib.ListN.{length}
+use Rattle.checker.specs.OwnershipBits.{bitsOf}
+use Rattle.checker.specs.Slots.{spentBy, keptOf}
+use Rattle.checker.specs.Ownership.{takenOf, kindBy}
+use Rattle.checker.proofs.reading.Steps.{pred-is}
+use Rattle.checker.proofs.ownership.Naming.{many-taken}
+use Rattle.checker.proofs.ownership.Turns.{kept-none, kept-bound, kept-all}
+use Rattle.checker.proofs.bodies.Meeting.{NodeRead, node-read, branch-read}
+use Rattle.checker.proofs.bodies.Terms.{NodeMet, no-fault, met-low, fault-passed, taken-passed, names-of, NodeMade, node-made, leaf-passed, one-passable, one-passed, two-passable, second-passable, two-unread, two-faults, two-passed, many-passable, many-passed, Walked, none-walked, end-passed, branch-unread, twice-passed, Branched, branch-passable, term-unread, term-faults, branch-walked}
+
+abbrev μ-check-branches : Measures 2 check-branches-kinds.ps ℕ
+μ-check-branches κs a = length (a .0 .now) - a .1 .1 .0
+
+abbrev μ-check-term : Measures 2 check-term-kinds.ps ℕ
+μ-check-term κs a = length (a .0 .now) - a .1 .1 .0
+
+abbrev check-branches-at : ℕ → In 2 check-branches-kinds.ps
+check-branches-at t =
+    and
+    2
+    check-branches-kinds.ps
+    (is 2 check-branches-kinds.ps μ-check-branches t)
+    check-branches.Pre
+
+abbrev check-branches-below : ℕ → In 2 check-branches-kinds.ps
+check-branches-below t =
+    and
+    2
+    check-branches-kinds.ps
+    (falls 2 check-branches-kinds.ps _<_ μ-check-branches t)
+    check-branches.Pre
+
+abbrev check-term-at : ℕ → In 2 check-term-kinds.ps
+check-term-at t =
+    and 2 check-term-kinds.ps (is 2 check-term-kinds.ps μ-check-term t) check-term.Pre
+
+abbrev check-term-below : ℕ → In 2 check-term-kinds.ps
+check-term-below t =
+    and 2 check-term-kinds.ps (falls 2 check-term-kinds.ps _<_ μ-check-term t) check-term.Pre
+
+abbrev check-branches-Inv-loop : check-branches-lts.InvT-loop
+check-branches-Inv-loop file decl start count credit result slots p at₀ left₀ seen₀ at left seen = Walked file decl start count credit result slots p at left seen
+
+abbrev check-branches-μ-loop : check-branches-lts.MeasureT-loop
+check-branches-μ-loop file decl start count credit result slots p at₀ left₀ seen₀ at left seen = left
+
+abbrev check-branches-calls : ℕ → check-branches-lts.Claims
+check-branches-calls t = (read-branch-reads.Asked, read-branch-reads.Learnt, byte-reads.Asked, byte-reads.Learnt, sees-reads.Asked, sees-reads.Learnt, branch-slots-reads.Asked, branch-slots-reads.Learnt, check-term-below t, check-term.Post, seeing-reads.Asked, seeing-reads.Learnt)
+
+abbrev check-term-calls : ℕ → check-term-lts.Claims
+check-term-calls t = (plain-row-reads.Asked, plain-row-reads.Learnt, read-node-reads.Asked, read-node-reads.Learnt, mark-reads.Asked, mark-reads.Learnt, first-place-reads.Asked, first-place-reads.Learnt, slot-index-reads.Asked, slot-index-reads.Learnt, second-place-reads.Asked, second-place-reads.Learnt, take-named-reads.Asked, take-named-reads.Learnt, takes-many-reads.Asked, takes-many-reads.Learnt, take-many-reads.Asked, take-many-reads.Learnt, spend-reads.Asked, spend-reads.Learnt, bound-kind-reads.Asked, bound-kind-reads.Learnt, check-term-below t, check-term.Post, check-branches-below t, check-branches.Post)
+
+-- a branch whose record reads and whose constructor is new
+branched : (t : ℕ) (c : check-branches-lts.After-branch-slots (check-branches-calls t) (check-branches-at t) check-branches.Post check-branches-Inv-loop check-branches-μ-loop)
+    → let a = c .before .before .before .before .before .before .before .before .before .before .before .args in
+    Branched (a .file .now) (a .decl .now) (a .start) (a .count) (a .credit) (a .result) (a .slots) (a .p) (c .before .before .before .before .before .before .before .before .before .loop .at) (c .before .before .before .before .before .before .before .before .before .loop .left) (c .before .before .before .before .before .before .before .before .before .loop .seen) (c .before .before .before .before .before .more .given .0 .0) (c .before .before .before .byte .result) (c .branch-slots .result)
+branched t c = record {
+  walked = c .before .before .before .before .before .before .before .before .before .loop .inv;
+  passable = c .before .before .before .before .before .before .before .before .before .before .before .pre .1 .0;
+  wide = c .before .before .before .before .before .before .before .before .before .before .before .good .1 .1 .1 .1 .1 .1 .0 .1 .0 .1;
+  some = c .before .before .before .before .before .before .before .before .loop-test .taken;
+  read = sym (c .before .before .before .before .before .before .before .read-branch .ensures) ∙ c .before .before .before .before .before .more .given .1;
+  con = c .before .before .before .byte .ensures .0;
+  new = sym (c .before .before .sees .ensures) ∙ c .before .if1 .left;
+  kept = c .branch-slots .ensures;
+}
+
+check-branches-loop-holds : (t : ℕ) → check-branches-lts.Need-loop-holds (check-branches-calls t) (check-branches-at t) check-branches.Post check-branches-Inv-loop check-branches-μ-loop
+check-branches-loop-holds t c = none-walked (c .before .pre .1 .0 .inside)
+
+check-branches-read-branch-requires : (t : ℕ) → check-branches-lts.Need-read-branch-requires (check-branches-calls t) (check-branches-at t) check-branches.Post check-branches-Inv-loop check-branches-μ-loop
+check-branches-read-branch-requires t c κs = (c .before .loop .inv .inside, c .before .before .before .pre .1 .1, c .before .before .before .pre .1 .0 .slots)
+
+check-branches-enum-known-number : (t : ℕ) → check-branches-lts.Need-enum-known-number (check-branches-calls t) (check-branches-at t) check-branches.Post check-branches-Inv-loop check-branches-μ-loop
+check-branches-enum-known-number t c = search needs
+
+check-branches-returns : (t : ℕ) → check-branches-lts.Need-returns (check-branches-calls t) (check-branches-at t) check-branches.Post check-branches-Inv-loop check-branches-μ-loop
+check-branches-returns t c = branch-unread (c .before .before .before .before .before .loop .inv) (c .before .before .before .before .before .before .before .pre .1 .0) (c .before .before .before .before .loop-test .taken) (sym (c .before .before .before .read-branch .ensures) ∙ c .before .number .given .1)
+
+check-branches-enum-known-more : (t : ℕ) → check-branches-lts.Need-enum-known-more (check-branches-calls t) (check-branches-at t) check-branches.Post check-branches-Inv-loop check-branches-μ-loop
+check-branches-enum-known-more t c = search needs
+
+check-branches-add-byte : (t : ℕ) → check-branches-lts.Need-add-byte (check-branches-calls t) (check-branches-at t) check-branches.Post check-branches-Inv-loop check-branches-μ-loop
+check-branches-add-byte t c = let x = branch-read (sym (c .before .before .before .read-branch .ensures) ∙ c .before .more .given .1) (c .before .before .before .before .before .loop .inv .inside) in omega (arith, x .inside)
+
+check-branches-byte-requires : (t : ℕ) → check-branches-lts.Need-byte-requires (check-branches-calls t) (check-branches-at t) check-branches.Post check-branches-Inv-loop check-branches-μ-loop
+check-branches-byte-requires t c κs = search needs
+
+check-branches-sees-requires : (t : ℕ) → check-branches-lts.Need-sees-requires (check-branches-calls t) (check-branches-at t) check-branches.Post check-branches-Inv-loop check-branches-μ-loop
+check-branches-sees-requires t c κs = let x = branch-read (sym (c .before .before .before .before .read-branch .ensures) ∙ c .before .before .more .given .1) (c .before .before .before .before .before .before .loop .inv .inside) in rw (c .byte .ensures .0) (x .low)
+
+check-branches-add-t27 : (t : ℕ) → check-branches-lts.Need-add-t27 (check-branches-calls t) (check-branches-at t) check-branches.Post check-branches-Inv-loop check-branches-μ-loop
+check-branches-add-t27 t c = let x = branch-read (sym (c .before .before .before .before .before .before .read-branch .ensures) ∙ c .before .before .before .before .more .given .1) (c .before .before .before .before .before .before .before .before .loop .inv .inside) in omega (arith, x .inside)
+
+check-branches-returns-2 : (t : ℕ) → check-branches-lts.Need-returns-2 (check-branches-calls t) (check-branches-at t) check-branches.Post check-branches-Inv-loop check-branches-μ-loop
+check-branches-returns-2 t c = twice-passed (c .before .before .before .before .before .before .before .before .loop .inv) (c .before .before .before .before .before .before .before .before .before .before .pre .1 .0) (c .before .before .before .before .before .before .before .before .before .before .good .1 .1 .1 .1 .1 .1 .0 .1 .0 .1) (c .before .before .before .before .before .before .before .loop-test .taken) (c .before .before .byte .ensures .0) (sym (c .before .sees .ensures) ∙ c .if1 .taken)
+
+check-branches-branch-slots-requires : (t : ℕ) → check-branches-lts.Need-branch-slots-requires (check-branches-calls t) (check-branches-at t) check-branches.Post check-branches-Inv-loop check-branches-μ-loop
+check-branches-branch-slots-requires t c κs = let x = branch-read (sym (c .before .before .before .before .before .before .read-branch .ensures) ∙ c .before .before .before .before .more .given .1) (c .before .before .before .before .before .before .before .before .loop .inv .inside) in (c .before .before .byte .ensures .1, omega (arith, c .before .before .before .before .before .before .before .before .loop .inv .inside, c .before .before .before .before .before .before .before .before .before .before .pre .1 .0 .small), c .before .before .before .before .before .before .before .before .before .before .pre .1 .1, rw (c .before .before .byte .ensures .0) (subst (λ v. v ≤ 32) (x .count) (x .fits)), c .before .before .before .before .before .before .before .before .before .before .pre .1 .0 .wide)
+
+check-branches-add-check-term : (t : ℕ) → check-branches-lts.Need-add-check-term (check-branches-calls t) (check-branches-at t) check-branches.Post check-branches-Inv-loop check-branches-μ-loop
+check-branches-add-check-term t c = let x = branch-read (sym (c .before .before .before .before .before .before .before .read-branch .ensures) ∙ c .before .before .before .before .before .more .given .1) (c .before .before .before .before .before .before .before .before .before .loop .inv .inside) in omega (arith, x .inside)
+
+check-branches-check-term-requires : (t : ℕ) → check-branches-lts.Need-check-term-requires (check-branches-calls t) (check-branches-at t) check-branches.Post check-branches-Inv-loop check-branches-μ-loop
+check-branches-check-term-requires t c κs = let y = branch-passable (branched t c) in (omega (arith, c .before .before .before .before .before .before .before .before .before .before .before .pre .0, y .0, y .1 .inside), y .1)
+
+check-branches-enum-known-next : (t : ℕ) → check-branches-lts.Need-enum-known-next (check-branches-calls t) (check-branches-at t) check-branches.Post check-branches-Inv-loop check-branches-μ-loop
+check-branches-enum-known-next t c = search needs
+
+check-branches-seeing-requires : (t : ℕ) → check-branches-lts.Need-seeing-requires (check-branches-calls t) (check-branches-at t) check-branches.Post check-branches-Inv-loop check-branches-μ-loop
+check-branches-seeing-requires t c κs = let x = branch-read (sym (c .before .before .before .before .before .before .before .before .before .before .before .read-branch .ensures) ∙ c .before .before .before .before .before .before .before .before .before .more .given .1) (c .before .before .before .before .before .before .before .before .before .before .before .before .before .loop .inv .inside) in rw (c .before .before .before .before .before .before .before .byte .ensures .0) (x .low)
+
+check-branches-sub-left : (t : ℕ) → check-branches-lts.Need-sub-left (check-branches-calls t) (check-branches-at t) check-branches.Post check-branches-Inv-loop check-branches-μ-loop
+check-branches-sub-left t c = omega (arith, pred-is _ (c .before .before .before .before .before .before .before .before .before .before .before .before .before .loop-test .taken))
+
+check-branches-loop-less : (t : ℕ) → check-branches-lts.Need-loop-less (check-branches-calls t) (check-branches-at t) check-branches.Post check-branches-Inv-loop check-branches-μ-loop
+check-branches-loop-less t c = omega (arith, pred-is _ (c .before .before .before .before .before .before .before .before .before .before .before .before .before .loop-test .taken))
+
+check-branches-loop-again : (t : ℕ) → check-branches-lts.Need-loop-again (check-branches-calls t) (check-branches-at t) check-branches.Post check-branches-Inv-loop check-branches-μ-loop
+check-branches-loop-again t c = branch-walked (branched t (c .before .before .before .before .before)) (c .before .before .before .before .check-term .ensures) (c .before .before .next .given .1) (c .seeing .ensures)
+
+check-branches-enum-known-number-2 : (t : ℕ) → check-branches-lts.Need-enum-known-number-2 (check-branches-calls t) (check-branches-at t) check-branches.Post check-branches-Inv-loop check-branches-μ-loop
+check-branches-enum-known-number-2 t c = search needs
+
+check-branches-returns-3 : (t : ℕ) → check-branches-lts.Need-returns-3 (check-branches-calls t) (check-branches-at t) check-branches.Post check-branches-Inv-loop check-branches-μ-loop
+check-branches-returns-3 t c = term-unread (branched t (c .before .before .before .before)) (c .before .before .before .check-term .ensures) (c .before .number2 .given .1)
+
+check-branches-enum-known-number-3 : (t : ℕ) → check-branches-lts.Need-enum-known-number-3 (check-branches-calls t) (check-branches-at t) check-branches.Post check-branches-Inv-loop check-branches-μ-loop
+check-branches-enum-known-number-3 t c = search needs
+
+check-branches-returns-4 : (t : ℕ) → check-branches-lts.Need-returns-4 (check-branches-calls t) (check-branches-at t) check-branches.Post check-branches-Inv-loop check-branches-μ-loop
+check-branches-returns-4 t c = term-faults (branched t (c .before .before .before .before)) (c .before .before .before .check-term .ensures) (c .before .number3 .given .1)
+
+check-branches-returns-5 : (t : ℕ) → check-branches-lts.Need-returns-5 (check-branches-calls t) (check-branches-at t) check-branches.Post check-branches-Inv-loop check-branches-μ-loop
+check-branches-returns-5 t c = end-passed (c .before .loop .inv) (c .before .before .before .pre .1 .0) (c .loop-test .left)
+
+-- the node behind the plain ones
+node-met : (t : ℕ) (c : check-term-lts.After-read-node (check-term-calls t) (check-term-at t) check-term.Post)
+    → let a = c .before .before .before .before .args in
+    NodeMet (a .file .now) (a .decl .now) (a .start) (a .slots) (a .p) (c .before .before .plain-row .result) (c .read-node .result)
+node-met t c = record { passable = c .before .before .before .before .pre .1; row = c .before .before .plain-row .ensures; node = c .read-node .ensures }
+
+-- that node, where it reads
+node-reads : (t : ℕ) (c : check-term-lts.At-match-keys2 (check-term-calls t) (check-term-at t) check-term.Post)
+    → let a = c .before .before .before .before .before .before .args in
+    let r = c .before .before .before .before .plain-row .result in
+    NodeRead (a .file .now) (a .decl .now) (r .at) (r .path) (c .before .before .read-node .result)
+node-reads t c = node-read (c .before .before .read-node .ensures) (c .before .before .before .before .plain-row .ensures .inside) (no-fault (c .before .before .read-node .result .then) (c .match .keys2))
+
+-- what the node takes
+taken : (t : ℕ) (c : check-term-lts.Joined1 (check-term-calls t) (check-term-at t) check-term.Post)
+    → let a = c .before .before .before .before .before .before .before .before .before .before .before .before .before .before .before .before .before .before .args in
+    let r = c .before .before .before .before .before .before .before .before .before .before .before .before .before .before .before .before .plain-row .result in
+    c .if1 .t ≡ takenOf (a .file .now) (a .decl .now) (r .at) (r .slots) (r .path .slots) (c .before .before .before .before .before .before .before .before .before .before .before .mark .result) (a .result)
+taken t c =
+    let a = c .before .before .before .before .before .before .before .before .before .before .before .before .before .before .before .before .before .before .args in
+    let r = c .before .before .before .before .before .before .before .before .before .before .before .before .before .before .before .before .plain-row .result in
+    ⊎-elim (λ w. w .2 ∙ w .1 .ensures ∙ many-taken (a .file .now) (a .decl .now) (r .at) (r .slots) (r .path .slots) (c .before .before .before .before .before .before .before .before .before .before .before .mark .result) (a .result) (sym (c .before .takes-many .ensures) ∙ w .0 .taken))
+    (λ w. w .1 ∙ c .before .before .take-named .ensures ∙ names-of (a .file .now) (a .decl .now) (r .at) (r .slots) (r .path .slots) (c .before .before .before .before .before .before .before .before .before .before .before .before .before .before .before .before .plain-row .ensures .few-slots) (a .result) (c .before .before .before .before .before .before .before .before .before .before .before .mark .result) (sym (c .before .takes-many .ensures) ∙ w .0 .left)
+    (c .before .before .before .before .before .before .before .before .before .before .first-place .result) (c .before .before .before .before .before .before .before .before .second-place .result) (c .before .before .before .before .before .before .before .before .before .slot-index .result) (c .before .before .before .before .before .before .before .slot-index2 .result) (c .before .before .before .before .first-place2 .result) (c .before .before .before .second-place2 .result) (c .before .before .before .before .before .before .before .before .before .before .first-place .ensures) (c .before .before .before .before .before .before .before .before .second-place .ensures) (c .before .before .before .before .first-place2 .ensures) (c .before .before .before .second-place2 .ensures) (c .before .before .before .before .before .before .before .before .before .slot-index .ensures .0) (c .before .before .before .before .before .before .before .slot-index2 .ensures .0))
+    (c .if1 .came)
+
+-- what the node leaves and binds
+made : (t : ℕ) (c : check-term-lts.Joined4 (check-term-calls t) (check-term-at t) check-term.Post)
+    → let a = c .before .before .before .before .before .before .before .before .before .before .before .before .before .before .before .before .before .before .before .before .before .before .before .before .args in
+    NodeMade (a .file .now) (a .decl .now) (a .start) (a .result) (a .slots) (a .p) (c .before .before .before .before .before .before .before .before .before .before .before .before .before .before .before .before .before .before .before .before .before .before .plain-row .result) (c .before .before .before .before .before .before .before .before .before .before .before .before .before .before .before .before .before .before .before .before .read-node .result) (c .if4 .inner)
+made t c =
+    let a = c .before .before .before .before .before .before .before .before .before .before .before .before .before .before .before .before .before .before .before .before .before .before .before .before .args in
+    let r = c .before .before .before .before .before .before .before .before .before .before .before .before .before .before .before .before .before .before .before .before .before .before .plain-row .result in
+    let more = c .before .before .before .before .before .before .before .before .before .before .before .before .before .before .before .before .before .before .before .before .read-node .result .path .slots in
+    let gone = c .before .before .before .before .before .before .if1 .t .spent in
+    let spent : spentBy (bitsOf 32 gone) (r .slots) ≡ c .before .before .if3 .inner =
+    ⊎-elim (λ w. sym (w .2 ∙ w .1 .ensures)) (λ w. kept-none (r .slots) gone (w .0 .left) ∙ sym (w .1)) (c .before .before .if3 .came) in
+    let kept : c .if4 .inner ≡ keptOf (r .slots) gone (r .path .slots) more (kindBy (a .file .now) (a .decl .now) (r .at) (c .before .before .before .before .before .before .before .before .before .before .before .before .before .before .before .before .before .mark .result)) (r .at) =
+    ⊎-elim (λ w. w .2 ∙ kept-bound (r .slots) (c .before .before .if3 .inner) gone (r .path .slots) more (w .1 .result) (r .at) spent (w .0 .taken)
+    ∙ ap (λ x. keptOf (r .slots) gone (r .path .slots) more x (r .at)) (w .1 .ensures))
+    (λ w. w .1 ∙ kept-all (r .slots) (c .before .before .if3 .inner) gone (r .path .slots) more (kindBy (a .file .now) (a .decl .now) (r .at) (c .before .before .before .before .before .before .before .before .before .before .before .before .before .before .before .before .before .mark .result)) (r .at) spent (w .0 .left))
+    (c .if4 .came) in
+    node-made (node-met t (c .before .before .before .before .before .before .before .before .before .before .before .before .before .before .before .before .before .before .before .before)) (node-reads t (c .before .before .before .before .before .before .before .before .before .before .before .before .before .before .before .before .before .before)) (c .before .before .before .before .before .before .before .before .before .before .before .before .before .before .before .before .before .mark .ensures) (taken t (c .before .before .before .before .before .before)) (c .before .before .before .before .if2 .left) kept
+
+check-term-plain-row-requires : (t : ℕ) → check-term-lts.Need-plain-row-requires (check-term-calls t) (check-term-at t) check-term.Post
+check-term-plain-row-requires t c κs = let k = c .before .pre .1 in (k .small, k .inside, k .slots, k .nodes)
+
+check-term-read-node-requires : (t : ℕ) → check-term-lts.Need-read-node-requires (check-term-calls t) (check-term-at t) check-term.Post
+check-term-read-node-requires t c κs = let w = c .before .plain-row .ensures in (w .inside, w .few-slots, w .few-nodes)
+
+check-term-enum-known-then : (t : ℕ) → check-term-lts.Need-enum-known-then (check-term-calls t) (check-term-at t) check-term.Post
+check-term-enum-known-then t c = search needs
+
+check-term-returns : (t : ℕ) → check-term-lts.Need-returns (check-term-calls t) (check-term-at t) check-term.Post
+check-term-returns t c = fault-passed (node-met t (c .before .before .before .before)) (c .before .then .given .1)
+
+check-term-mark-requires : (t : ℕ) → check-term-lts.Need-mark-requires (check-term-calls t) (check-term-at t) check-term.Post
+check-term-mark-requires t c κs = let l = met-low (node-met t (c .before .before)) in let w = node-reads t c in (l .0, omega (arith, w .inside))
+
+check-term-first-place-requires : (t : ℕ) → check-term-lts.Need-first-place-requires (check-term-calls t) (check-term-at t) check-term.Post
+check-term-first-place-requires t c κs = let l = met-low (node-met t (c .before .before .before)) in l .0
+
+check-term-slot-index-requires : (t : ℕ) → check-term-lts.Need-slot-index-requires (check-term-calls t) (check-term-at t) check-term.Post
+check-term-slot-index-requires t c κs = let w = node-reads t (c .before .before) in rw (c .first-place .ensures, c .before .mark .ensures) (w .first)
+
+check-term-second-place-requires : (t : ℕ) → check-term-lts.Need-second-place-requires (check-term-calls t) (check-term-at t) check-term.Post
+check-term-second-place-requires t c κs = let l = met-low (node-met t (c .before .before .before .before .before)) in l .0
+
+check-term-slot-index-requires-2 : (t : ℕ) → check-term-lts.Need-slot-index-requires-2 (check-term-calls t) (check-term-at t) check-term.Post
+check-term-slot-index-requires-2 t c κs = let w = node-reads t (c .before .before .before .before) in rw (c .second-place .ensures, c .before .before .before .mark .ensures) (w .second)
+
+check-term-mul-one : (t : ℕ) → check-term-lts.Need-mul-one (check-term-calls t) (check-term-at t) check-term.Post
+check-term-mul-one t c = omega (arith, c .before .before .slot-index .ensures .1)
+
+check-term-array-copy-out-one : (t : ℕ) → check-term-lts.Need-array-copy-out-one (check-term-calls t) (check-term-at t) check-term.Post
+check-term-array-copy-out-one t c = omega (arith, c .before .before .slot-index .ensures .1)
+
+check-term-mul-two : (t : ℕ) → check-term-lts.Need-mul-two (check-term-calls t) (check-term-at t) check-term.Post
+check-term-mul-two t c = omega (arith, c .before .slot-index2 .ensures .1)
+
+check-term-array-copy-out-two : (t : ℕ) → check-term-lts.Need-array-copy-out-two (check-term-calls t) (check-term-at t) check-term.Post
+check-term-array-copy-out-two t c = omega (arith, c .before .slot-index2 .ensures .1)
+
+check-term-first-place-requires-2 : (t : ℕ) → check-term-lts.Need-first-place-requires-2 (check-term-calls t) (check-term-at t) check-term.Post
+check-term-first-place-requires-2 t c κs = let l = met-low (node-met t (c .before .before .before .before .before .before .before .before .before)) in l .0
+
+check-term-second-place-requires-2 : (t : ℕ) → check-term-lts.Need-second-place-requires-2 (check-term-calls t) (check-term-at t) check-term.Post
+check-term-second-place-requires-2 t c κs = let l = met-low (node-met t (c .before .before .before .before .before .before .before .before .before .before)) in l .0
+
+check-term-take-named-requires : (t : ℕ) → check-term-lts.Need-take-named-requires (check-term-calls t) (check-term-at t) check-term.Post
+check-term-take-named-requires t c κs = let l = met-low (node-met t (c .before .before .before .before .before .before .before .before .before .before .before)) in let w = node-reads t (c .before .before .before .before .before .before .before .before .before) in (l .1, rw (c .before .first-place2 .ensures, c .before .before .before .before .before .before .before .before .mark .ensures) (w .first), rw (c .second-place2 .ensures, c .before .before .before .before .before .before .before .before .mark .ensures) (w .second))
+
+check-term-takes-many-requires : (t : ℕ) → check-term-lts.Need-takes-many-requires (check-term-calls t) (check-term-at t) check-term.Post
+check-term-takes-many-requires t c κs = search needs
+
+check-term-take-many-requires : (t : ℕ) → check-term-lts.Need-take-many-requires (check-term-calls t) (check-term-at t) check-term.Post
+check-term-take-many-requires t c κs = let l = met-low (node-met t (c .before .before .before .before .before .before .before .before .before .before .before .before .before .before)) in (l .1, l .0, l .2)
+
+check-term-returns-2 : (t : ℕ) → check-term-lts.Need-returns-2 (check-term-calls t) (check-term-at t) check-term.Post
+check-term-returns-2 t c = taken-passed (node-met t (c .before .before .before .before .before .before .before .before .before .before .before .before .before .before .before .before)) (c .before .before .before .before .before .before .before .before .before .before .before .before .before .mark .ensures) (taken t (c .before .before)) (c .if2 .taken)
+
+check-term-spend-requires : (t : ℕ) → check-term-lts.Need-spend-requires (check-term-calls t) (check-term-at t) check-term.Post
+check-term-spend-requires t c κs = search needs
+
+check-term-bound-kind-requires : (t : ℕ) → check-term-lts.Need-bound-kind-requires (check-term-calls t) (check-term-at t) check-term.Post
+check-term-bound-kind-requires t c κs = let l = met-low (node-met t (c .before .before .before .before .before .before .before .before .before .before .before .before .before .before .before .before .before .before .before .before)) in (l .0, l .2)
+
+check-term-cast-t50 : (t : ℕ) → check-term-lts.Need-cast-t50 (check-term-calls t) (check-term-at t) check-term.Post
+check-term-cast-t50 t c = let l = met-low (node-met t (c .before .before .before .before .before .before .before .before .before .before .before .before .before .before .before .before .before .before .before .before .before)) in omega (arith, l .0)
+
+check-term-mul-inner : (t : ℕ) → check-term-lts.Need-mul-inner (check-term-calls t) (check-term-at t) check-term.Post
+check-term-mul-inner t c = let l = met-low (node-met t (c .before .before .before .before .before .before .before .before .before .before .before .before .before .before .before .before .before .before .before .before .before)) in omega (arith, l .1)
+
+check-term-array-set-from-inner : (t : ℕ) → check-term-lts.Need-array-set-from-inner (check-term-calls t) (check-term-at t) check-term.Post
+check-term-array-set-from-inner t c = let w = node-reads t (c .before .before .before .before .before .before .before .before .before .before .before .before .before .before .before .before .before .before .before) in omega (arith, c .before .if4 .taken, w .fits)
+
+check-term-enum-known-then-2 : (t : ℕ) → check-term-lts.Need-enum-known-then-2 (check-term-calls t) (check-term-at t) check-term.Post
+check-term-enum-known-then-2 t c = search needs
+
+check-term-enum-known-then-3 : (t : ℕ) → check-term-lts.Need-enum-known-then-3 (check-term-calls t) (check-term-at t) check-term.Post
+check-term-enum-known-then-3 t c = search needs
+
+check-term-check-term-requires : (t : ℕ) → check-term-lts.Need-check-term-requires (check-term-calls t) (check-term-at t) check-term.Post
+check-term-check-term-requires t c κs = let x = one-passable (made t (c .before .before .before)) (c .before .then3 .given .1) in (omega (arith, c .before .before .before .before .before .before .before .before .before .before .before .before .before .before .before .before .before .before .before .before .before .before .before .before .before .before .before .pre .0, x .0, x .1 .inside), x .1)
+
+check-term-enum-known-then-4 : (t : ℕ) → check-term-lts.Need-enum-known-then-4 (check-term-calls t) (check-term-at t) check-term.Post
+check-term-enum-known-then-4 t c = search needs
+
+check-term-check-term-requires-2 : (t : ℕ) → check-term-lts.Need-check-term-requires-2 (check-term-calls t) (check-term-at t) check-term.Post
+check-term-check-term-requires-2 t c κs = let x = two-passable (made t (c .before .before .before)) (c .before .then4 .given .1) in (omega (arith, c .before .before .before .before .before .before .before .before .before .before .before .before .before .before .before .before .before .before .before .before .before .before .before .before .before .before .before .pre .0, x .0, x .1 .inside), x .1)
+
+check-term-enum-known-other : (t : ℕ) → check-term-lts.Need-enum-known-other (check-term-calls t) (check-term-at t) check-term.Post
+check-term-enum-known-other t c = search needs
+
+check-term-check-term-requires-3 : (t : ℕ) → check-term-lts.Need-check-term-requires-3 (check-term-calls t) (check-term-at t) check-term.Post
+check-term-check-term-requires-3 t c κs = let x = second-passable (made t (c .before .before .before .before .before .before .before)) (c .before .before .before .before .before .then4 .given .1) (c .before .before .before .check-term2 .ensures) (c .before .other .given .1) in (omega (arith, c .before .before .before .before .before .before .before .before .before .before .before .before .before .before .before .before .before .before .before .before .before .before .before .before .before .before .before .before .before .before .before .pre .0, x .0, x .1 .inside), x .1)
+
+check-term-enum-known-number : (t : ℕ) → check-term-lts.Need-enum-known-number (check-term-calls t) (check-term-at t) check-term.Post
+check-term-enum-known-number t c = search needs
+
+check-term-enum-known-number-2 : (t : ℕ) → check-term-lts.Need-enum-known-number-2 (check-term-calls t) (check-term-at t) check-term.Post
+check-term-enum-known-number-2 t c = search needs
+
+check-term-enum-known-then-5 : (t : ℕ) → check-term-lts.Need-enum-known-then-5 (check-term-calls t) (check-term-at t) check-term.Post
+check-term-enum-known-then-5 t c = search needs
+
+check-term-check-branches-requires : (t : ℕ) → check-term-lts.Need-check-branches-requires (check-term-calls t) (check-term-at t) check-term.Post
+check-term-check-branches-requires t c κs = let x = many-passable (made t (c .before .before .before)) (c .before .then5 .given .1) in (omega (arith, c .before .before .before .before .before .before .before .before .before .before .before .before .before .before .before .before .before .before .before .before .before .before .before .before .before .before .before .pre .0, x .0, x .1 .inside), (x .1, x .2))
+
+check-term-enum-known-then-6 : (t : ℕ) → check-term-lts.Need-enum-known-then-6 (check-term-calls t) (check-term-at t) check-term.Post
+check-term-enum-known-then-6 t c = search needs
+
+check-term-returns-3 : (t : ℕ) → check-term-lts.Need-returns-3 (check-term-calls t) (check-term-at t) check-term.Post
+check-term-returns-3 t c = leaf-passed (made t (c .before .before .before)) (c .before .then2 .given .1)
+
+check-term-returns-4 : (t : ℕ) → check-term-lts.Need-returns-4 (check-term-calls t) (check-term-at t) check-term.Post
+check-term-returns-4 t c = one-passed (made t (c .before .before .before .before)) (c .before .before .then3 .given .1) (c .check-term .ensures)
+
+check-term-returns-5 : (t : ℕ) → check-term-lts.Need-returns-5 (check-term-calls t) (check-term-at t) check-term.Post
+check-term-returns-5 t c = two-passed (made t (c .before .before .before .before .before .before .before .before)) (c .before .before .before .before .before .before .then4 .given .1) (c .before .before .before .before .check-term2 .ensures) (c .before .before .other .given .1) (c .check-term3 .ensures)
+
+check-term-returns-6 : (t : ℕ) → check-term-lts.Need-returns-6 (check-term-calls t) (check-term-at t) check-term.Post
+check-term-returns-6 t c = two-unread (made t (c .before .before .before .before .before .before .before)) (c .before .before .before .before .before .then4 .given .1) (c .before .before .before .check-term2 .ensures) (c .before .number .given .1)
+
+check-term-returns-7 : (t : ℕ) → check-term-lts.Need-returns-7 (check-term-calls t) (check-term-at t) check-term.Post
+check-term-returns-7 t c = two-faults (made t (c .before .before .before .before .before .before .before)) (c .before .before .before .before .before .then4 .given .1) (c .before .before .before .check-term2 .ensures) (c .before .number2 .given .1)
+
+check-term-returns-8 : (t : ℕ) → check-term-lts.Need-returns-8 (check-term-calls t) (check-term-at t) check-term.Post
+check-term-returns-8 t c = many-passed (made t (c .before .before .before .before)) (c .before .before .then5 .given .1) (c .check-branches .ensures)
+
+check-term-returns-9 : (t : ℕ) → check-term-lts.Need-returns-9 (check-term-calls t) (check-term-at t) check-term.Post
+check-term-returns-9 t c = fault-passed (node-met t (c .before .before .before .before .before .before .before .before .before .before .before .before .before .before .before .before .before .before .before .before .before .before .before)) (c .before .then6 .given .1)
+
+pub +check-branches+check-term-spec : {M : Type 1} → statement M
++check-branches+check-term-spec =
+    close μ-check-branches μ-check-term (λ t. check-branches-lts.spec (check-branches-calls t)
+    (check-branches-at t)
+    check-branches.Post
+    check-branches-Inv-loop
+    check-branches-μ-loop
+    (check-branches-loop-holds t)
+    (check-branches-read-branch-requires t)
+    (check-branches-enum-known-number t)
+    (check-branches-returns t)
+    (check-branches-enum-known-more t)
+    (check-branches-add-byte t)
+    (check-branches-byte-requires t)
+    (check-branches-sees-requires t)
+    (check-branches-add-t27 t)
+    (check-branches-returns-2 t)
+    (check-branches-branch-slots-requires t)
+    (check-branches-add-check-term t)
+    (check-branches-check-term-requires t)
+    (check-branches-enum-known-next t)
+    (check-branches-seeing-requires t)
+    (check-branches-sub-left t)
+    (check-branches-loop-less t)
+    (check-branches-loop-again t)
+    (check-branches-enum-known-number-2 t)
+    (check-branches-returns-3 t)
+    (check-branches-enum-known-number-3 t)
+    (check-branches-returns-4 t)
+    (check-branches-returns-5 t))
+    λ t. check-term-lts.spec (check-term-calls t)
+    (check-term-at t)
+    check-term.Post
+    (check-term-plain-row-requires t)
+    (check-term-read-node-requires t)
+    (check-term-enum-known-then t)
+    (check-term-returns t)
+    (check-term-mark-requires t)
+    (check-term-first-place-requires t)
+    (check-term-slot-index-requires t)
+    (check-term-second-place-requires t)
+    (check-term-slot-index-requires-2 t)
+    (check-term-mul-one t)
+    (check-term-array-copy-out-one t)
+    (check-term-mul-two t)
+    (check-term-array-copy-out-two t)
+    (check-term-first-place-requires-2 t)
+    (check-term-second-place-requires-2 t)
+    (check-term-take-named-requires t)
+    (check-term-takes-many-requires t)
+    (check-term-take-many-requires t)
+    (check-term-returns-2 t)
+    (check-term-spend-requires t)
+    (check-term-bound-kind-requires t)
+    (check-term-cast-t50 t)
+    (check-term-mul-inner t)
+    (check-term-array-set-from-inner t)
+    (check-term-enum-known-then-2 t)
+    (check-term-enum-known-then-3 t)
+    (check-term-check-term-requires t)
+    (check-term-enum-known-then-4 t)
+    (check-term-check-term-requires-2 t)
+    (check-term-enum-known-other t)
+    (check-term-check-term-requires-3 t)
+    (check-term-enum-known-number t)
+    (check-term-enum-known-number-2 t)
+    (check-term-enum-known-then-5 t)
+    (check-term-check-branches-requires t)
+    (check-term-enum-known-then-6 t)
+    (check-term-returns-3 t)
+    (check-term-returns-4 t)
+    (check-term-returns-5 t)
+    (check-term-returns-6 t)
+    (check-term-returns-7 t)
+    (check-term-returns-8 t)
+    (check-term-returns-9 t)

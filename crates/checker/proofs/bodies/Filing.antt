@@ -1,0 +1,313 @@
+-- A function's body that is read and checked in one, the bodies of a file in order, and the whole file. Assumes nothing.
+use Prim.Native.Nat.{ℕ, suc, _+_, _/_, _%_, _≤_, _<_}
+use mathlib.Core.Path.{_≡_, refl, sym, ap, _∙_, subst}
+use mathlib.Core.List.{List, [], _++_, map, append-assoc}
+use mathlib.Core.Logic.{inl, inr, ⊎-elim}
+use native.Mathlib.Omega.{arith}
+use native.Mathlib.Numerals.{add-one}
+use lib.ListN.{length, drop, getD, replicate, length-replicate, length-append, drop-of-length-le, List·getD-append}
+use lib.Seq.{drop-cons}
+use borrow.Author.Tests.{lt-ltb}
+use Rattle.meaning.specs.declared.Slot.{Slot}
+use Rattle.meaning.specs.Choice.{pick}
+use Rattle.meaning.specs.Plain.{place-of, no-body}
+use Rattle.meaning.specs.Syntax.{Signature, Constructor, File}
+use Rattle.meaning.specs.Machine.{function-of, body-of}
+use Rattle.meaning.specs.Outcome.{Outcome, ok, refuse, then}
+use Rattle.meaning.specs.Reading.{read}
+use Rattle.meaning.specs.Ownership.{check, check-bodies, check-file, no-function}
+use Rattle.meaning.specs.Ownership as tree
+use Rattle.standing.specs.Bytes.{byteAt, paramsIn, modesIn}
+use Rattle.standing.specs.Stands.{Stands}
+use Rattle.standing.specs.Table.{con-words, con-end, fun-words, filled, tableOf, sort-byte, Sorts, Modes, Declared}
+use Rattle.standing.proofs.Declaring.{read-declared}
+use Rattle.checker.specs.declared.reading.Read.the-variants as read′
+use Rattle.checker.specs.declared.reading.Reached.{Reached}
+use Rattle.checker.specs.declared.ownership.Checked.{Checked}
+use Rattle.checker.specs.declared.ownership.Checked.the-variants.{Next, Unread, Fault}
+use Rattle.checker.specs.ReadingBytes.{path, knownCount, expectAt, endAt}
+use Rattle.checker.specs.Opening.{tableWith, HeaderRead, Bodied, ReadsBody, Ends}
+use Rattle.checker.specs.Slots.{slotsOf, unbound}
+use Rattle.checker.specs.Ownership.{resultIn, laidOf}
+use Rattle.checker.specs.OwnershipReady.{spanned, Known, Ready, Judged, ReadyBody, JudgedBody}
+use Rattle.checker.specs.Bodies.{Passable, Passed, PassedBody, Finished}
+use Rattle.checker.proofs.reading.Tabled.{fill-wide, con-count, fun-count}
+use Rattle.checker.proofs.reading.Steps.{from-fault, expect-next}
+use Rattle.checker.proofs.reading.Body.{too-long, body-fails, body-here, expect-off, from-end, end-fails, end-reads, said}
+use Rattle.checker.proofs.ownership.Taking.{modes-scaled}
+use Rattle.checker.proofs.ownership.Branching.{laid-tells}
+use Rattle.checker.proofs.ownership.Cycle.{spanned-next, spanned-fault}
+
+-- ---- an answer is one of three
+next-unread : {n x q : ℕ} → Next n ≡ Unread x q → ⊥
+next-unread e = let z : _≡_ {A = ℕ} 0 1 = cc in omega arith
+
+next-fault : {n x q : ℕ} → Next n ≡ Fault x q → ⊥
+next-fault e = let z : _≡_ {A = ℕ} 0 1 = cc in omega arith
+
+unread-fault : {x q y p : ℕ} → Unread x q ≡ Fault y p → ⊥
+unread-fault e = let z : _≡_ {A = ℕ} 0 1 = cc in omega arith
+
+unread-number : {x q y p : ℕ} → Unread x q ≡ Unread y p → x ≡ y
+unread-number e = cc
+
+unread-place : {x q y p : ℕ} → Unread x q ≡ Unread y p → q ≡ p
+unread-place e = cc
+
+fault-number : {x q y p : ℕ} → Fault x q ≡ Fault y p → x ≡ y
+fault-number e = cc
+
+fault-place : {x q y p : ℕ} → Fault x q ≡ Fault y p → q ≡ p
+fault-place e = cc
+
+-- ---- one body
+module _ (f d : List ℕ) (at j : ℕ) where
+  count-is : (g : ReadyBody f d at j) → paramsIn d j ≡ length (function-of (g .file) j .parameters)
+  count-is g = g .declared .parameters j (g .low)
+
+  body-ready : ReadyBody f d at j → Ready f d (at + 2) (resultIn f d j) (paramsIn d j)
+  body-ready g = record {
+    file = g .file;
+    declared = g .declared;
+    sort = function-of (g .file) j .result;
+    wanted = sym (g .declared .result j (g .low) .0);
+    term = g .term;
+    next = g .next;
+    here = g .here;
+    stands = subst (λ n. Stands (g .file) f n (g .term) (g .next)) (sym (count-is g)) (g .stands);
+    few = omega (arith, count-is g, g .declared .few j);
+  }
+
+  -- the slots of the parameters
+  start-slots : (place : ℕ) (g : ReadyBody f d at j)
+      → slotsOf (paramsIn d j) (laidOf f 1 place (paramsIn d j) (modesIn d j) 0 (replicate 32 unbound))
+      ≡ tree.bind [] (map tree.kind-of (function-of (g .file) j .parameters))
+  unfolding slotsOf
+  start-slots place g =
+      let ms = function-of (g .file) j .parameters in
+      let l : 0 + length ms ≤ length (replicate 32 unbound) = omega (arith, g .declared .few j, length-replicate 32 unbound) in
+      let z : 0 + length ms ≡ length ms = omega arith in
+      ap (λ n. slotsOf n (laidOf f 1 place n (modesIn d j) 0 (replicate 32 unbound))) (count-is g)
+      ∙ ap (λ n. slotsOf n (laidOf f 1 place (length ms) (modesIn d j) 0 (replicate 32 unbound))) (sym z)
+      ∙ laid-tells f 1 place ms (modesIn d j) 0 (replicate 32 unbound) (modes-scaled f (modesIn d j) ms (g .declared .modes j (g .low))) l
+
+  body-judged : (place : ℕ) {r : Checked}
+      → Judged f d (at + 2) (resultIn f d j) (laidOf f 1 place (paramsIn d j) (modesIn d j) 0 (replicate 32 unbound)) (paramsIn d j) r
+      → JudgedBody f d at j r
+  unfolding body-ready
+  body-judged place J = record {
+    judged = λ g.
+        J .judged (body-ready g)
+        ∙ ap (λ s. spanned (g .next) (check (g .file .constructors) (g .file .functions) (function-of (g .file) j .result) (g .term) s)) (start-slots place g);
+  }
+
+  -- no BD stands here
+  pub body-unread : (x q : ℕ) → at ≤ length f → expectAt f at 2 ≡ read′.Fault x q → PassedBody f d at j (Unread x q)
+  unfolding ReadsBody
+  body-unread x q h e = record {
+    next = λ n z. absurd (next-unread (sym z));
+    unread = λ y p z.
+        let w = from-fault refl (expect-off f at 2 x q at h e) in (
+          subst (λ k. 0 < k) (unread-number z) (w .0),
+          subst (λ k. k ≤ length f) (unread-place z) (w .1),
+          inl (x, q, e, sym (λ i. read′.Fault (unread-number z i) (unread-place z i))),
+        );
+    fault = λ y p z. absurd (unread-fault z);
+  }
+
+  module _ (low : j < 32) where
+    pub known-is : knownCount d j ≡ paramsIn d j
+    unfolding knownCount pick
+    known-is = rw (lt-ltb j 32 low)
+
+    body-passed : (place : ℕ) (r : Checked) → expectAt f at 2 ≡ read′.Next (at + 2)
+        → Passed f d (at + 2) (resultIn f d j) (laidOf f 1 place (paramsIn d j) (modesIn d j) 0 (replicate 32 unbound)) (path (paramsIn d j) 0) r
+        → PassedBody f d at j r
+    unfolding ReadsBody
+    body-passed place r e P = record {
+      next = λ n z.
+          let w = P .next n z in
+          (omega (arith, w .0), w .1, inr (e, said f d (read′.Next n) refl (sym known-is) (w .2)), body-judged place (w .3));
+      unread = λ x q z.
+          let w = P .unread x q z in
+          (w .0, w .1, inr (e, said f d (read′.Fault x q) refl (sym known-is) (w .2)));
+      fault = λ x q z. body-judged place (P .fault x q z);
+    }
+
+    -- the same with what the code has read and made
+    module _ (n start : ℕ) (en : n ≡ paramsIn d j) (es : expectAt f at 2 ≡ read′.Next start) where
+      pub made-passable : length f ≤ 4096 → length d ≡ 128 → knownCount d j ≤ 8 → Passable f d start (path n 0)
+      made-passable h w k =
+          let x = expect-next f at 2 start es in
+          record { small = h; wide = w; inside = x .1; slots = omega (arith, en, known-is); nodes = omega arith }
+
+      pub made-passed : (place m res : ℕ) (fresh slots : List Slot) (r : Checked) → m ≡ modesIn d j → res ≡ resultIn f d j → fresh ≡ replicate 32 unbound
+          → slots ≡ laidOf f 1 place n m 0 fresh → Passed f d start res slots (path n 0) r → PassedBody f d at j r
+      made-passed place m res fresh slots r em er ef el P =
+          let x = expect-next f at 2 start es in
+          body-passed place r (es ∙ ap read′.Next (x .0)) (rw (el, ef, em, en, er, x .0) at P)
+
+-- ---- what a table says whose bodies are not all known
+known-of : {file : File} {f d t : List ℕ} → Declared file f t → length d ≡ 128 → ((i : ℕ) → i < 96 → getD t i 0 ≡ getD d i 0) → Known file f d
+known-of {file} {f} {d} {t} D w same = record {
+  wide = w;
+  constructors = D .constructors;
+  functions = D .functions;
+  arities = λ c h. sym (ap (λ x. x % 256) (con-word c h)) ∙ D .arities c h;
+  small = D .small;
+  sorts = λ c h. subst (λ x. Sorts f (x / 256) (getD (file .constructors) c [])) (con-word c h) (D .sorts c h);
+  parameters = λ g h. sym (ap (λ x. x % 256) (fun-word g h)) ∙ D .parameters g h;
+  few = D .few;
+  modes = λ g h. subst (λ x. Modes f (x / 256) (function-of file g .parameters)) (fun-word g h) (D .modes g h);
+  result = λ g h.
+      subst (λ x. (byteAt f (x / 256 + x % 256) ≡ sort-byte (function-of file g .result)) × (x / 256 + x % 256 < length f)) (fun-word g h) (D .result g h);
+  size = D .size;
+}
+  where
+    con-word : (c : ℕ) → c < length (file .constructors) → getD t c 0 ≡ getD d c 0
+    con-word c h = let z = D .constructors in same c (omega arith)
+
+    fun-word : (g : ℕ) → g < length (file .functions) → getD t (64 + g) 0 ≡ getD d (64 + g) 0
+    fun-word g h = let z = D .functions in same (64 + g) (omega arith)
+
+same-front : (xs ys zs : List ℕ) (i : ℕ) → i < length xs → getD (xs ++ ys) i 0 ≡ getD (xs ++ zs) i 0
+same-front xs ys zs i h = List·getD-append xs ys 0 i h ∙ sym (List·getD-append xs zs 0 i h)
+
+same-words : (cs : List Constructor) (fs : List Signature) (ps qs : List ℕ) → length cs ≤ 64 → length fs ≤ 32 → (i : ℕ) → i < 96
+    → getD (tableWith cs fs ps) i 0 ≡ getD (tableWith cs fs qs) i 0
+unfolding tableWith
+same-words cs fs ps qs h k i l =
+    let first = filled 64 (con-words 0 cs) in
+    let second = filled 32 (fun-words (con-end 0 cs) fs) in
+    let a = con-count 0 cs in
+    let b = fun-count (con-end 0 cs) fs in
+    let u = fill-wide 64 (con-words 0 cs) (omega arith) in
+    let w = fill-wide 32 (fun-words (con-end 0 cs) fs) (omega arith) in
+    let z = length-append first second in
+    ap (λ x. getD x i 0) (sym (append-assoc first second (filled 32 ps)))
+    ∙ same-front (first ++ second) (filled 32 ps) (filled 32 qs) i (omega arith)
+    ∙ ap (λ x. getD x i 0) (append-assoc first second (filled 32 qs))
+
+-- ---- the bodies of a file in order
+-- what is left to check once so many bodies are found fine
+pub record Left (f : List ℕ) (j : ℕ) : Type 0 where
+  pub left : (file : File) → read f ≡ ok file → check-file file ≡ check-bodies (file .constructors) (file .functions) (drop j (file .functions)) (drop j (file .bodies))
+
+pub all-left : (f : List ℕ) → Left f 0
+unfolding check-file
+all-left f = record { left = λ file e. refl }
+
+module _ (f d : List ℕ) (count j at : ℕ) (C : Bodied f d count j at) (h : j < count) where
+  in-file : (file : File) → read f ≡ ok file → j < length (file .functions)
+  in-file file e = let x = body-here f d count j at C h file e in omega (arith, ap length (x .1), C .functions-count)
+
+  file-table : (file : File) → read f ≡ ok file → (i : ℕ) → i < 96 → getD (tableOf file) i 0 ≡ getD d i 0
+  unfolding tableOf tableWith
+  file-table file e i l =
+      let x = body-here f d count j at C h file e in
+      (λ k. getD (tableWith (x .0 k) (x .1 k) (map place-of (file .bodies))) i 0)
+      ∙ same-words (C .constructors) (C .functions) (map place-of (file .bodies)) (map place-of (C .terms)) (C .few) (omega (arith, C .functions-count, C .few-functions)) i l
+      ∙ ap (λ t. getD t i 0) (sym (C .table))
+
+  here-ready : (file : File) → read f ≡ ok file → ReadyBody f d at j
+  here-ready file e =
+      let D = read-declared f file e in
+      record {
+        file = file;
+        declared = known-of D (C .wide) (file-table file e);
+        low = in-file file e;
+        term = body-of file j;
+        next = D .ends j;
+        here = body-here f d count j at C h file e .2;
+        stands = D .stands j (in-file file e);
+      }
+
+  this-check : File → Outcome (Unit {0})
+  this-check file =
+      check (file .constructors) (file .functions) (function-of file j .result) (body-of file j) (tree.bind [] (map tree.kind-of (function-of file j .parameters)))
+
+  next-body : Left f j → (file : File) → read f ≡ ok file
+      → check-file file ≡ then (this-check file) (λ _. check-bodies (file .constructors) (file .functions) (drop (suc j) (file .functions)) (drop (suc j) (file .bodies)))
+  unfolding check-bodies this-check
+  next-body l file e =
+      let a = in-file file e in
+      let b : j < length (file .bodies) = omega (arith, a, read-declared f file e .many) in
+      l .left file e ∙ rw (drop-cons (file .functions) j no-function a, drop-cons (file .bodies) j no-body b)
+
+  pub fine-left : {n : ℕ} → Left f j → JudgedBody f d at j (Next n) → Left f (j + 1)
+  unfolding here-ready this-check
+  fine-left {n} l J = record {
+    left = λ file e.
+        let y = spanned-next (read-declared f file e .ends j) n (this-check file) (J .judged (here-ready file e)) in
+        next-body l file e ∙ rw (y .0, add-one j);
+  }
+
+  pub body-stops : {x q : ℕ} → Left f j → JudgedBody f d at j (Fault x q) → (file : File) → read f ≡ ok file → check-file file ≡ refuse x q
+  unfolding here-ready this-check
+  body-stops {x} {q} l J file e =
+      let y = spanned-fault (read-declared f file e .ends j) x q (this-check file) (J .judged (here-ready file e)) in
+      next-body l file e ∙ rw y
+
+none-left : (f : List ℕ) (j : ℕ) → Left f j → (file : File) → read f ≡ ok file → length (file .functions) ≤ j → check-file file ≡ ok tt
+unfolding check-bodies
+none-left f j l file e h =
+    let b : length (file .bodies) ≤ j = omega (arith, h, read-declared f file e .many) in
+    l .left file e ∙ rw (drop-of-length-le (file .functions) h, drop-of-length-le (file .bodies) b)
+
+-- ---- the whole file
+pub finished-unread : (f d : List ℕ) (x q : ℕ) → 0 < x → read f ≡ refuse x q → q ≤ 4096 → Finished f d (Unread x q)
+finished-unread f d x q a b c = record {
+  next = λ n z. absurd (next-unread (sym z));
+  unread = λ y p z. (
+    subst (λ k. 0 < k) (unread-number z) a,
+    b ∙ (λ i. refuse (unread-number z i) (unread-place z i)),
+    subst (λ k. k ≤ 4096) (unread-place z) c,
+  );
+  fault = λ y p z. absurd (unread-fault z);
+}
+
+pub finished-fault : (f d : List ℕ) (x q : ℕ) → ((file : File) → read f ≡ ok file → check-file file ≡ refuse x q) → Finished f d (Fault x q)
+finished-fault f d x q k = record {
+  next = λ n z. absurd (next-fault (sym z));
+  unread = λ y p z. absurd (unread-fault (sym z));
+  fault = λ y p z file e. k file e ∙ (λ i. refuse (fault-number z i) (fault-place z i));
+}
+
+finished-next : (f d : List ℕ) (m : ℕ) (file : File) → read f ≡ ok file → d ≡ tableOf file → check-file file ≡ ok tt → Finished f d (Next m)
+finished-next f d m file a b c = record {
+  next = λ n z. (file, a, b, c);
+  unread = λ x q z. absurd (next-unread z);
+  fault = λ x q z. absurd (next-fault z);
+}
+
+pub finished-long : (f d : List ℕ) → 4096 < length f → Finished f d (Unread 1 0)
+finished-long f d h = finished-unread f d 1 0 (omega arith) (too-long f h) (omega arith)
+
+pub header-stops : (f d d′ : List ℕ) (r : Reached) → HeaderRead f d r → (r .number ≡ 0 → ⊥) → Finished f d′ (Unread (r .number) (r .at))
+unfolding HeaderRead
+header-stops f d d′ r H n = ⊎-elim (λ x. absurd (n (x .0))) (λ x. finished-unread f d′ (r .number) (r .at) (x .0) (x .1) (x .2)) H
+
+-- a body does not read
+pub body-refused : (f d : List ℕ) (count j at : ℕ) → length f ≤ 4096 → (C : Bodied f d count j at) → j < count → (d′ : List ℕ) {r : Checked} (x q : ℕ) → r ≡ Unread x q
+    → PassedBody f d at j r → Finished f d′ (Unread x q)
+body-refused f d count j at s C h d′ x q e P =
+    let w = P .unread x q e in
+    finished-unread f d′ x q (w .0) (body-fails f d count j at C h x q (w .2)) (omega (arith, w .1, s))
+
+-- the end of the file
+pub end-refused : (f d : List ℕ) (count at : ℕ) → length f ≤ 4096 → Bodied f d count count at → (x q : ℕ) → endAt f at ≡ read′.Fault x q → Finished f d (Unread x q)
+unfolding Ends
+end-refused f d count at s C x q e =
+    let z = from-fault e (from-end f at (C .inside)) in
+    ⊎-elim (λ w. absurd (omega (arith, w .0, z .0))) (λ w. finished-unread f d x q (w .0) (w .1) (w .2)) (end-fails f d count at s C x q e)
+
+pub end-finished : (f d : List ℕ) (count at : ℕ) → length f ≤ 4096 → Bodied f d count count at → Left f count → (n : ℕ) → endAt f at ≡ read′.Next n → Finished f d (Next n)
+unfolding Ends
+end-finished f d count at s C l n e =
+    ⊎-elim
+    (λ w. finished-next f d n (w .1) (w .2) (w .3) (none-left f count l (w .1) (w .2) (omega (arith, w .4))))
+    (λ w. absurd (omega (arith, w .0)))
+    (end-reads f d count at s C n e)
+
+pub all-checked : {f : List ℕ} {count j : ℕ} → j ≤ count → count ≤ j → Left f j → Left f count
+all-checked {f} {count} {j} h l L = let e : j ≡ count = omega arith in subst (λ n. Left f n) e L

@@ -1,0 +1,317 @@
+// Bodies, read and checked in one pass. A fault of reading is told from one of the ownership check, since a file that does not read is
+// refused for that, wherever its other faults stand.
+use crate::ownership::Checked;
+use crate::ownership::bind_all;
+use crate::ownership::bound_kind;
+use crate::ownership::branch_slots;
+use crate::ownership::byte;
+use crate::ownership::first_place;
+use crate::ownership::head;
+use crate::ownership::mark;
+use crate::ownership::modes;
+use crate::ownership::params;
+use crate::ownership::result_of;
+use crate::ownership::second_place;
+use crate::ownership::seeing;
+use crate::ownership::sees;
+use crate::ownership::slot_index;
+use crate::ownership::take_many;
+use crate::ownership::take_named;
+use crate::ownership::take_pair;
+use crate::ownership::takes_many;
+use crate::reading::Path;
+use crate::reading::Read;
+use crate::reading::Then;
+use crate::reading::expect_mark;
+use crate::reading::read_branch;
+use crate::reading::read_end;
+use crate::reading::read_header;
+use crate::reading::read_node;
+use crate::slots::fresh_slots;
+use crate::slots::spend;
+use meaning::AR;
+use meaning::BD;
+use meaning::BYTES;
+use meaning::Kind;
+use meaning::NODES;
+use meaning::NU;
+use meaning::SLOTS;
+use meaning::Slot;
+ghost use mathlib.Core.Path.{_≡_};
+ghost use Prim.Native.Nat.{_+_, _≤_, _<_};
+ghost use lib.ListN.{length, replicate};
+ghost use Rattle.checker.specs.ReadingBytes.{path, knownCount};
+ghost use Rattle.checker.specs.Opening.{Bodied};
+ghost use Rattle.checker.specs.Bodies.{Passable, sumSize, plainSize, Plainly, Passed, PassedAll, PassedBody, Finished};
+
+// Where a row of plain nodes ends, and the slots and the path there.
+pub struct Plain {
+    pub at: usize,
+    pub slots: [Slot; 32],
+    pub path: Path,
+}
+
+// The bytes of an AR that names two numbers, by the kinds of the slots; 0 where something is wrong.
+fn sum_size(file: &[u8], at: usize, bound: usize, first: Kind, second: Kind) -> usize
+    requires { ⌜ (at + 5 ≤ length (now file)) × (bound ≤ 32) ⌝ }
+    ensures { λ r. ⌜ r ≡ sumSize (now (file .entry)) at bound first second ⌝ }
+{
+    if 3 < file[at + 2] {
+        return 0;
+    }
+    let t = take_pair(file, at + 3, at + 4, first, second, bound);
+    if t.number != 0 {
+        return 0;
+    }
+    5
+}
+
+// The bytes of a plain node: an NU or an AR with nothing wrong, which takes no tree and binds a number; 0 of another.
+fn plain_size(file: &[u8], at: usize, p: Path, first: Kind, second: Kind) -> usize
+    requires { ⌜ (at + 5 ≤ length (now file)) × (length (now file) ≤ 4096) ⌝ }
+    ensures { λ r. ⌜ r ≡ plainSize (now (file .entry)) at p first second ⌝ }
+{
+    if SLOTS <= p.slots {
+        return 0;
+    }
+    if NODES <= p.nodes {
+        return 0;
+    }
+    match mark(file, at) {
+        NU => 4,
+        AR => sum_size(file, at, p.slots, first, second),
+        _ => 0,
+    }
+}
+
+// Plain nodes in a row, each followed by the next alone: their slots are bound in place.
+fn plain_row(file: &[u8], start: usize, slots: [Slot; 32], p: Path) -> Plain
+    requires { ⌜ (length (now file) ≤ 4096) × (start ≤ length (now file)) × (p .slots ≤ 32) × (p .nodes ≤ 64) ⌝ }
+    ensures { λ r. ⌜ Plainly (now (file .entry)) start slots p r ⌝ }
+{
+    let mut inner = slots;
+    let mut at = start;
+    let mut path = p;
+    while at + 5 <= file.len() {
+        let i = slot_index(file, at + 3);
+        let j = slot_index(file, at + 4);
+        let one = inner[i];
+        let two = inner[j];
+        let first = one.kind;
+        let second = two.kind;
+        let size = plain_size(file, at, path, first, second);
+        if size == 0 {
+            return Plain {
+                at,
+                slots: inner,
+                path,
+            };
+        }
+        let bound = path.slots;
+        inner[bound] = Slot {
+            kind: Kind::Number,
+            place: at as u16,
+        };
+        path = Path {
+            slots: bound + 1,
+            nodes: path.nodes + 1,
+        };
+        at += size;
+    }
+    Plain {
+        at,
+        slots: inner,
+        path,
+    }
+}
+
+// The term at a place: behind its plain nodes, one node, and the terms that follow it.
+fn check_term(
+    file: &[u8],
+    decl: &[u32; 128],
+    start: usize,
+    result: usize,
+    slots: [Slot; 32],
+    p: Path,
+) -> Checked
+    requires { ⌜ Passable (now file) (now decl) start p ⌝ }
+    ensures { λ r. ⌜ Passed (now (file .entry)) (now (decl .entry)) start result slots p r ⌝ }
+{
+    let row = plain_row(file, start, slots, p);
+    let at = row.at;
+    let mut inner = row.slots;
+    let bound = row.path.slots;
+    let n = read_node(file, decl, at, row.path);
+    let then = n.then;
+    let path = n.path;
+    match then {
+        Then::Fault(number, place) => {
+            return Checked::Unread(number, place);
+        }
+        _ => {}
+    }
+    let m = mark(file, at);
+    let i = slot_index(file, first_place(m, at));
+    let j = slot_index(file, second_place(m, at));
+    let one = inner[i];
+    let two = inner[j];
+    let first = one.kind;
+    let second = two.kind;
+    let mut t = take_named(
+        file,
+        m,
+        first_place(m, at),
+        second_place(m, at),
+        first,
+        second,
+        bound,
+    );
+    if takes_many(m) {
+        t = take_many(file, decl, at, m, result, inner, bound);
+    }
+    if t.number != 0 {
+        return Checked::Fault(t.number, t.place);
+    }
+    if t.spent != 0 {
+        let left = spend(inner, t.spent);
+        inner = left;
+    }
+    if bound < path.slots {
+        let kind = bound_kind(file, decl, at, m);
+        inner[bound] = Slot {
+            kind,
+            place: at as u16,
+        };
+    }
+    match then {
+        Then::Leaf(next) => Checked::Next(next),
+        Then::One(next) => check_term(file, decl, next, result, inner, path),
+        Then::Two(next) => match check_term(file, decl, next, result, inner, path) {
+            Checked::Next(other) => check_term(file, decl, other, result, inner, path),
+            Checked::Unread(number, place) => Checked::Unread(number, place),
+            Checked::Fault(number, place) => Checked::Fault(number, place),
+        },
+        Then::Many(next, count, credit) => {
+            check_branches(file, decl, next, count, credit, result, inner, path)
+        }
+        Then::Fault(number, place) => Checked::Unread(number, place),
+    }
+}
+
+// So many branches from a place on, each from the same slots.
+fn check_branches(
+    file: &[u8],
+    decl: &[u32; 128],
+    start: usize,
+    count: usize,
+    credit: usize,
+    result: usize,
+    slots: [Slot; 32],
+    p: Path,
+) -> Checked
+    requires { ⌜ Passable (now file) (now decl) start p × (credit ≤ 1) ⌝ }
+    ensures { λ r. ⌜ PassedAll (now (file .entry)) (now (decl .entry)) start count credit result slots p r ⌝ }
+{
+    let mut at = start;
+    let mut left = count;
+    let mut seen: u64 = 0;
+    while left != 0 {
+        match read_branch(file, decl, at, credit, p.slots) {
+            Read::Fault(number, place) => {
+                return Checked::Unread(number, place);
+            }
+            Read::Next(more) => {
+                let c = byte(file, at + 2);
+                if sees(seen, c) {
+                    return Checked::Fault(12, at + 2);
+                }
+                let inner = branch_slots(file, decl, c, at, credit, slots, p.slots);
+                let path = Path {
+                    slots: more,
+                    nodes: p.nodes,
+                };
+                match check_term(file, decl, at + 3, result, inner, path) {
+                    Checked::Next(next) => {
+                        seen = seeing(seen, c);
+                        at = next;
+                        left -= 1;
+                    }
+                    Checked::Unread(number, place) => {
+                        return Checked::Unread(number, place);
+                    }
+                    Checked::Fault(number, place) => {
+                        return Checked::Fault(number, place);
+                    }
+                }
+            }
+        }
+    }
+    Checked::Next(at)
+}
+
+// BD and the body of a function, from its parameters.
+fn check_body(file: &[u8], decl: &[u32; 128], at: usize, f: usize) -> Checked
+    requires { ⌜ Passable (now file) (now decl) at (path 0 0) × (f < 32) × (knownCount (now decl) f ≤ 8) ⌝ }
+    ensures { λ r. ⌜ PassedBody (now (file .entry)) (now (decl .entry)) at f r ⌝ }
+{
+    match expect_mark(file, at, BD) {
+        Read::Fault(number, place) => Checked::Unread(number, place),
+        Read::Next(start) => {
+            let n = params(decl, f);
+            let fresh = fresh_slots();
+            let slots = bind_all(file, modes(decl, f), 1, n, head(decl, f), fresh, 0);
+            let result = result_of(file, decl, f);
+            check_term(
+                file,
+                decl,
+                start,
+                result,
+                slots,
+                Path { slots: n, nodes: 0 },
+            )
+        }
+    }
+}
+
+// The bodies of so many functions, each one's place into the table, and the end of the file.
+fn check_bodies(file: &[u8], decl: &mut [u32; 128], start: usize, count: usize) -> Checked
+    requires { ⌜ (length (now file) ≤ 4096) × Bodied (now file) (now decl) count 0 start ⌝ }
+    ensures { λ r. ⌜ Finished (now (file .entry)) (now (decl .exit)) r ⌝ }
+{
+    let mut f: usize = 0;
+    let mut at: usize = start;
+    while f < count {
+        match check_body(file, decl, at, f) {
+            Checked::Next(next) => {
+                decl[96 + f] = (at + 2) as u32;
+                f += 1;
+                at = next;
+            }
+            Checked::Unread(number, place) => {
+                return Checked::Unread(number, place);
+            }
+            Checked::Fault(number, place) => {
+                return Checked::Fault(number, place);
+            }
+        }
+    }
+    match read_end(file, at) {
+        Read::Fault(number, place) => Checked::Unread(number, place),
+        Read::Next(end) => Checked::Next(end),
+    }
+}
+
+// The whole file, with what it declares in the table.
+pub(crate) fn check_file(file: &[u8], decl: &mut [u32; 128]) -> Checked
+    requires { ⌜ now decl ≡ replicate 128 255 ⌝ }
+    ensures { λ r. ⌜ Finished (now (file .entry)) (now (decl .exit)) r ⌝ }
+{
+    if BYTES < file.len() {
+        return Checked::Unread(1, 0);
+    }
+    let header = read_header(file, decl);
+    if header.number != 0 {
+        return Checked::Unread(header.number, header.at);
+    }
+    check_bodies(file, decl, header.at, header.count)
+}
