@@ -1,10 +1,10 @@
 -- What reading, the ownership check and the shape of the calls come to together: `judgedOf` and `verdictOf`. Assumes nothing.
-use Prim.Native.Nat.{ℕ, zero, suc, _≤_, _<_}
+use Prim.Native.Nat.{ℕ, _<_}
 use mathlib.Core.List.{List}
 use mathlib.Core.Path.{_≡_, refl, sym, ap, _∙_, subst}
-use mathlib.Core.Logic.{_⊎_, inl, inr}
+use mathlib.Core.Logic.{inl, inr}
 use native.Mathlib.Omega.{arith}
-use lib.ListN.{length, replicate}
+use lib.ListN.{length}
 use Rattle.meaning.specs.declared.Verdict.{Verdict}
 use Rattle.meaning.specs.declared.Verdict.the-variants as verdict
 use Rattle.meaning.specs.Syntax.{File}
@@ -26,7 +26,7 @@ use Rattle.checker.specs.declared.ownership.Checked.the-variants.{Next, 
 use Rattle.checker.specs.Opening.{Ends}
 use Rattle.checker.specs.declared.reading.Reached.{Reached}
 use Rattle.checker.specs.Bodies.{Finished}
-use Rattle.checker.specs.Judging.{refusal, acceptance, judged, judgedOf}
+use Rattle.checker.specs.Judging.{refusal, judged, judgedOf}
 
 -- a file that was read, with its table
 pub record Whole (f d : List ℕ) (funs : ℕ) : Type 0 where

@@ -7,3 +7,5 @@ pub mod Levels
 pub mod Rows
 pub mod Squares
 pub mod Masks
+pub mod Keeping
+pub mod Visits

@@ -10,7 +10,7 @@ use Rattle.meaning.specs.declared.Slot.{Slot}
 use Rattle.meaning.specs.Choice.{pick}
 use Rattle.meaning.specs.Marks.{findMark}
 use Rattle.meaning.specs.Syntax.{File}
-use Rattle.meaning.specs.Outcome.{Outcome, ok, refuse}
+use Rattle.meaning.specs.Outcome.{ok, refuse}
 use Rattle.meaning.specs.Reading.{read}
 use Rattle.meaning.specs.Ownership.{check-file}
 use Rattle.standing.specs.Bytes.{byteAt, markAt}

@@ -1,6 +1,6 @@
 -- The square as the code fills it: the records of a body stand one after the other, so a loop finds its calls. Assumes nothing.
 use Prim.Native.Nat.{ℕ, zero, suc, _+_, _-_, _%_, _≤_, _<_}
-use mathlib.Core.Bool.{Bool, false, not}
+use mathlib.Core.Bool.{Bool, true, false, not}
 use mathlib.Core.List.{List}
 use mathlib.Core.Path.{_≡_}
 use lib.ListN.{length, getD, set, replicate}
@@ -9,9 +9,10 @@ use Rattle.meaning.specs.declared.How.{How}
 use Rattle.meaning.specs.declared.How.the-variants.{Never, Tail, Waits}
 use Rattle.meaning.specs.Choice.{pick}
 use Rattle.meaning.specs.Marks.{rowAt, findMark}
-use Rattle.meaning.specs.Calls.{Square, entry, stronger}
+use Rattle.meaning.specs.Sets.{upto}
+use Rattle.meaning.specs.Calls.{Square, entry, stronger, called, Reaches}
 use Rattle.standing.specs.Bytes.{byteAt, markAt, paramsIn, bodyIn}
-use Rattle.checker.specs.Bits.{filled}
+use Rattle.checker.specs.Bits.{bitsOf, filled}
 
 -- by a mark's place in the table: how the record calls, how many slots it lists behind its fixed fields, its size, and how many terms follow it
 unfoldable pub how-of : ℕ → How
@@ -62,6 +63,10 @@ rowIn bytes table f = scanFrom bytes table (bodyIn table f) 1 no-row
 unfoldable pub squareIn : (bytes table : List ℕ) → (count : ℕ) → Square
 squareIn bytes table count = filled no-row count (λ f. rowIn bytes table f)
 
+-- the functions that a row calls, as a set
+abbrev pub Led : List How → ℕ → Type 0
+Led row set = bitsOf 32 set ≡ upto 32 (λ g. called (getD row g Never))
+
 -- so many functions are declared
 pub record Counted (table : List ℕ) (count : ℕ) : Type 0 where
   pub small : count ≤ 32
@@ -73,8 +78,20 @@ pub record Within (count : ℕ) (sq : Square) : Type 0 where
   pub callers : (f g : ℕ) → count ≤ f → entry sq f g ≡ Never
   pub callees : (f g : ℕ) → count ≤ g → entry sq f g ≡ Never
 
+-- the rows of the functions that are reached, and no other
+pub record Kept (full sq : Square) : Type 0 where
+  pub same : (f : ℕ) → Reaches full f → (g : ℕ) → entry sq f g ≡ entry full f g
+  pub none : (f : ℕ) → (Reaches full f → ⊥) → (g : ℕ) → entry sq f g ≡ Never
+
 -- whether an entry is a call of one way
 abbrev pub goes : Bool → How → Bool
 goes waiting Never = false
 goes waiting Tail = not waiting
 goes waiting Waits = waiting
+
+-- rows of tails and of waits that say what the square says of the functions that are reached
+pub record Tells (sq : Square) (tails waits : ℕ → List Bool) : Type 0 where
+  pub tail-size : (f : ℕ) → length (tails f) ≡ 32
+  pub wait-size : (f : ℕ) → length (waits f) ≡ 32
+  pub tail-at : (f g : ℕ) → Reaches sq f → getD (tails f) g false ≡ goes false (entry sq f g)
+  pub wait-at : (f g : ℕ) → Reaches sq f → getD (waits f) g false ≡ goes true (entry sq f g)

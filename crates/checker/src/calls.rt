@@ -11,8 +11,7 @@ use meaning::Verdict;
 use meaning::find_mark;
 use meaning::mark_row;
 ghost use mathlib.Core.Path.{_≡_};
-ghost use mathlib.Core.Bool.{Bool, true, false};
-ghost use mathlib.Core.List.{List, []};
+ghost use mathlib.Core.Bool.{true, false};
 ghost use Prim.Native.Nat.{_<_, _≤_, _+_, _*_, _%_};
 ghost use lib.ListN.{set, getD, length};
 ghost use Rattle.meaning.specs.Marks.{findMark, rowAt};
@@ -20,12 +19,12 @@ ghost use Rattle.meaning.specs.declared.How.the-variants.{Never};
 ghost use Rattle.meaning.specs.Outcome.{ok};
 ghost use Rattle.meaning.specs.Syntax.{File};
 ghost use Rattle.meaning.specs.Sets.{first, how-many, zip, or, except};
-ghost use Rattle.meaning.specs.Calls.{stronger, judge, shape};
+ghost use Rattle.meaning.specs.Calls.{stronger, square, judge, shape, IsReached};
 ghost use Rattle.meaning.specs.Answers.{told};
-ghost use Rattle.standing.specs.Bytes.{byteAt, markAt, paramsIn, bodyIn};
+ghost use Rattle.standing.specs.Bytes.{byteAt, markAt, bodyIn};
 ghost use Rattle.standing.specs.Table.{Declared};
 ghost use Rattle.checker.specs.Bits.{bitsOf, filled, member, closure, onward, Settles};
-ghost use Rattle.checker.specs.Scan.{countIn, listed, follow, size, rowIn, squareIn, goes, Counted, Within};
+ghost use Rattle.checker.specs.Scan.{countIn, listed, follow, size, rowIn, goes, Led, Counted, Within, Kept, Tells};
 
 // ---- the records of a body
 
@@ -142,72 +141,6 @@ fn follow(file: &[u8], at: usize, m: usize) -> usize
     }
 }
 
-// ---- the square
-
-// A call that waits wins over a tail call.
-fn stronger(a: How, b: How) -> How
-    ensures { λ r. ⌜ r ≡ stronger a b ⌝ }
-{
-    match a {
-        How::Waits => How::Waits,
-        How::Tail => match b {
-            How::Waits => How::Waits,
-            How::Tail => How::Tail,
-            How::Never => How::Tail,
-        },
-        How::Never => b,
-    }
-}
-
-// A function's row: the records of its body stand one after the other, until no term is left to begin.
-fn row_of(file: &[u8], decl: &[u32; 128], f: usize) -> [How; 32]
-    requires { ⌜ (length (now file) ≤ 4096) × (f < 32) ⌝ }
-    ensures { λ r. ⌜ r ≡ rowIn (now (file .entry)) (now (decl .entry)) f ⌝ }
-{
-    let mut row = [How::Never; 32];
-    let mut at = body(decl, f);
-    let mut left: usize = 1;
-    while at + 2 < file.len() {
-        if left == 0 {
-            return row;
-        }
-        let m = mark_at(file, at);
-        let named = wide(file[at + 2]);
-        if m == CL {
-            if named < 32 {
-                let was = row[named];
-                let now = stronger(was, How::Waits);
-                row[named] = now;
-            }
-        }
-        if m == TL {
-            if named < 32 {
-                let was = row[named];
-                let now = stronger(was, How::Tail);
-                row[named] = now;
-            }
-        }
-        left = left - 1 + follow(file, at, m);
-        at = at + size(decl, m, named);
-    }
-    row
-}
-
-// The square of a file that was read.
-fn square_of(file: &[u8], decl: &[u32; 128], count: usize) -> [[How; 32]; 32]
-    requires { ⌜ (length (now file) ≤ 4096) × (count ≤ 32) ⌝ }
-    ensures { λ r. ⌜ r ≡ squareIn (now (file .entry)) (now (decl .entry)) count ⌝ }
-{
-    let mut square = [[How::Never; 32]; 32];
-    let mut f: usize = 0;
-    while f < count {
-        let row = row_of(file, decl, f);
-        square[f] = row;
-        f += 1;
-    }
-    square
-}
-
 // ---- sets of functions, as bits
 
 // Whether a function is a member.
@@ -260,6 +193,88 @@ fn except(x: u32, y: u32) -> u32
     ensures { λ r. ⌜ bitsOf 32 r ≡ except (bitsOf 32 x) (bitsOf 32 y) ⌝ }
 {
     (x | y) ^ y
+}
+
+// ---- the square
+
+// A call that waits wins over a tail call.
+fn stronger(a: How, b: How) -> How
+    ensures { λ r. ⌜ r ≡ stronger a b ⌝ }
+{
+    match a {
+        How::Waits => How::Waits,
+        How::Tail => match b {
+            How::Waits => How::Waits,
+            How::Tail => How::Tail,
+            How::Never => How::Tail,
+        },
+        How::Never => b,
+    }
+}
+
+// A function's row, and the set of those that it calls: the records of its body stand one after the other, until no term is left to begin.
+fn row_of(file: &[u8], decl: &[u32; 128], f: usize, callees: &mut u32) -> [How; 32]
+    requires { ⌜ (length (now file) ≤ 4096) × (f < 32) ⌝ }
+    ensures { λ r. ⌜ (r ≡ rowIn (now (file .entry)) (now (decl .entry)) f) × Led r (now (callees .exit)) ⌝ }
+{
+    let mut row = [How::Never; 32];
+    let mut at = body(decl, f);
+    let mut left: usize = 1;
+    let mut called: u32 = 0;
+    while at + 2 < file.len() {
+        if left == 0 {
+            *callees = called;
+            return row;
+        }
+        let m = mark_at(file, at);
+        let named = wide(file[at + 2]);
+        if m == CL {
+            if named < 32 {
+                let was = row[named];
+                let now = stronger(was, How::Waits);
+                row[named] = now;
+                called = with(called, named as u32);
+            }
+        }
+        if m == TL {
+            if named < 32 {
+                let was = row[named];
+                let now = stronger(was, How::Tail);
+                row[named] = now;
+                called = with(called, named as u32);
+            }
+        }
+        left = left - 1 + follow(file, at, m);
+        at = at + size(decl, m, named);
+    }
+    *callees = called;
+    row
+}
+
+// The square of a file that was read, with the rows of the functions that are reached: a body is scanned when its function is visited.
+fn square_of(file: &[u8], decl: &[u32; 128]) -> [[How; 32]; 32]
+    requires { ⌜ ((tree : File) × Declared tree (now file) (now decl)) ⌝ }
+    ensures { λ r. ⌜ ((tree : File) → Declared tree (now (file .entry)) (now (decl .entry)) → Kept (square tree) r) ⌝ }
+{
+    let mut square = [[How::Never; 32]; 32];
+    let mut todo: u32 = 1;
+    let mut seen: u32 = 1;
+    let mut k: u32 = 0;
+    while k < 32 {
+        let i = lowest(todo);
+        if 32 <= i {
+            return square;
+        }
+        let mut called: u32 = 0;
+        let row = row_of(file, decl, i as usize, &mut called);
+        square[i as usize] = row;
+        let left = without_lowest(todo);
+        let fresh = except(called, seen);
+        todo = either(left, fresh);
+        seen = either(called, seen);
+        k += 1;
+    }
+    square
 }
 
 // ---- what the square says
@@ -347,6 +362,34 @@ fn settle(tails: &[u32; 32], waits: &[u32; 32], count: usize, reached: u32) -> V
     Verdict::Flat(depth, reached)
 }
 
+// The functions that are reached, the smallest to do next, and what each one's row leads to.
+fn visit(square: [[How; 32]; 32], count: usize, tails: &mut [u32; 32], waits: &mut [u32; 32]) -> u32
+    requires { ⌜ (count ≤ 32) × Within count square × (length (now tails) ≡ 32) × (length (now waits) ≡ 32) ⌝ }
+    ensures { λ r. ⌜ Tells square (member (now (tails .exit))) (member (now (waits .exit))) × IsReached square (how-many (bitsOf 32 r)) ⌝ }
+{
+    let mut todo: u32 = 1;
+    let mut seen: u32 = 1;
+    let mut k: u32 = 0;
+    while k < 32 {
+        let i = lowest(todo);
+        if 32 <= i {
+            return seen;
+        }
+        let row = square[i as usize];
+        let tail = mask(row, count, false);
+        let wait = mask(row, count, true);
+        tails[i as usize] = tail;
+        waits[i as usize] = wait;
+        let called = either(tail, wait);
+        let left = without_lowest(todo);
+        let fresh = except(called, seen);
+        todo = either(left, fresh);
+        seen = either(called, seen);
+        k += 1;
+    }
+    seen
+}
+
 // The verdict on a square of so many functions.
 fn judge(square: [[How; 32]; 32], count: usize) -> Verdict
     requires { ⌜ (count ≤ 32) × Within count square ⌝ }
@@ -354,19 +397,8 @@ fn judge(square: [[How; 32]; 32], count: usize) -> Verdict
 {
     let mut tails: [u32; 32] = [0; 32];
     let mut waits: [u32; 32] = [0; 32];
-    let mut both: [u32; 32] = [0; 32];
-    let mut f: usize = 0;
-    while f < count {
-        let row = square[f];
-        let tail = mask(row, count, false);
-        let wait = mask(row, count, true);
-        tails[f] = tail;
-        waits[f] = wait;
-        both[f] = either(tail, wait);
-        f += 1;
-    }
-    let reached = count_of(closure(&both, 1));
-    settle(&tails, &waits, count, reached)
+    let seen = visit(square, count, &mut tails, &mut waits);
+    settle(&tails, &waits, count, count_of(seen))
 }
 
 // Flat with its depth, or stacked, and how many functions are reached: of a file that was read, with its table of declarations.
@@ -375,6 +407,6 @@ pub(crate) fn shape_of(file: &[u8], decl: &[u32; 128]) -> Verdict
     ensures { λ r. ⌜ ((tree : File) → Declared tree (now (file .entry)) (now (decl .entry)) → r ≡ told (ok (shape tree))) ⌝ }
 {
     let count = functions(decl);
-    let square = square_of(file, decl, count);
+    let square = square_of(file, decl);
     judge(square, count)
 }

@@ -3,11 +3,11 @@
 use Prim.Native.Nat.{ℕ, _+_, _≤_, _<_}
 use mathlib.Core.Bool.{Bool, true, false}
 use mathlib.Core.List.{List}
-use mathlib.Core.Path.{_≡_, refl, sym, ap, _∙_, subst}
+use mathlib.Core.Path.{_≡_, refl, sym, ap, _∙_}
 use native.Mathlib.Omega.{arith}
 use lib.ListN.{length, getD}
 use lib.Dec.{leb, ltb, eqb}
-use borrow.Author.Tests.{leb-false, ltb-true, ltb-false, eqb-true, lt-ltb}
+use borrow.Author.Tests.{leb-false, ltb-true, ltb-false, eqb-true}
 use Rattle.meaning.specs.Choice.{pick}
 use Rattle.meaning.specs.Marks.{rowAt, findMark}
 use Rattle.standing.specs.Bytes.{byteAt, markAt, arityIn, paramsIn}

@@ -65,22 +65,22 @@ pub record Closed (row : ℕ → List Bool) (P : ℕ → Type 0) (begin seen : L
   pub closed : (f : ℕ) → getD seen f false ≡ true → (g : ℕ) → getD (row f) g false ≡ true → getD seen g false ≡ true
 
 -- on the way: `done` are the functions visited
-record Going (row : ℕ → List Bool) (P : ℕ → Type 0) (begin todo seen : List Bool) (done : List ℕ) : Type 0 where
-  size : length seen ≡ 32
-  size-todo : length todo ≡ 32
-  known : (f : ℕ) → getD seen f false ≡ true → P f
-  begun : (f : ℕ) → getD begin f false ≡ true → getD seen f false ≡ true
-  within : (f : ℕ) → getD todo f false ≡ true → getD seen f false ≡ true
-  closed : (f : ℕ) → getD seen f false ≡ true → getD todo f false ≡ false → (g : ℕ) → getD (row f) g false ≡ true → getD seen g false ≡ true
-  distinct : Distinct done
-  over : (f : ℕ) → Has f done → (getD seen f false ≡ true) × (getD todo f false ≡ false)
+pub record Going (row : ℕ → List Bool) (P : ℕ → Type 0) (begin todo seen : List Bool) (done : List ℕ) : Type 0 where
+  pub size : length seen ≡ 32
+  pub size-todo : length todo ≡ 32
+  pub known : (f : ℕ) → getD seen f false ≡ true → P f
+  pub begun : (f : ℕ) → getD begin f false ≡ true → getD seen f false ≡ true
+  pub within : (f : ℕ) → getD todo f false ≡ true → getD seen f false ≡ true
+  pub closed : (f : ℕ) → getD seen f false ≡ true → getD todo f false ≡ false → (g : ℕ) → getD (row f) g false ≡ true → getD seen g false ≡ true
+  pub distinct : Distinct done
+  pub over : (f : ℕ) → Has f done → (getD seen f false ≡ true) × (getD todo f false ≡ false)
 
 module _ {row : ℕ → List Bool} {P : ℕ → Type 0} {begin todo seen : List Bool} {done : List ℕ} (g : Going row P begin todo seen done) where
-  all-done : ((f : ℕ) → getD todo f false ≡ false) → Closed row P begin seen
+  pub all-done : ((f : ℕ) → getD todo f false ≡ false) → Closed row P begin seen
   all-done none = record { size = g .size; known = g .known; begun = g .begun; closed = λ f e. g .closed f e (none f) }
 
   -- 32 visits are enough
-  spent : length done ≡ 32 → (f : ℕ) → getD todo f false ≡ false
+  pub spent : length done ≡ 32 → (f : ℕ) → getD todo f false ≡ false
   spent e f = go (decided (getD todo f false))
     where
       small : (x : ℕ) → (x ≡ f) ⊎ Has x done → getD todo f false ≡ true → x < 32
@@ -142,14 +142,29 @@ module _ (row : ℕ → List Bool) (long : (f : ℕ) → length (row f) ≡ 32) 
         go (inl q) = keeps f (g .within f q)
         go (inr q) = absurd (clash e (unset f (inr q)))
 
-    closed-now : (f : ℕ) → getD seen′ f false ≡ true → getD todo′ f false ≡ false → (h : ℕ) → getD (row f) h false ≡ true → getD seen′ h false ≡ true
-    closed-now f e n h c =
+    -- what is seen and not to do: i, or what was so before
+    pub settled-now : (f : ℕ) → getD seen′ f false ≡ true → getD todo′ f false ≡ false → (f ≡ i) ⊎ ((f ≡ i → ⊥) × (getD seen f false ≡ true) × (getD todo f false ≡ false))
+    settled-now f e n =
         let b = not-due (getD (set todo i false) f false) (getD (row i) f false) (getD seen f false) (sym (todo-at f) ∙ n) (sym (seen-at f) ∙ e) in
         go (ℕ-discrete f i) (b .0) (b .1)
       where
-        go : Dec (f ≡ i) → getD (set todo i false) f false ≡ false → getD seen f false ≡ true → getD seen′ h false ≡ true
-        go (yes q) u s = seen-at h ∙ ap (λ b. or b (getD seen h false)) (ap (λ x. getD (row x) h false) (sym q) ∙ c)
-        go (no q) u s = keeps h (g .closed f s (sym (getD-set-other todo i f false false q) ∙ u) h c)
+        go : Dec (f ≡ i) → getD (set todo i false) f false ≡ false → getD seen f false ≡ true → (f ≡ i) ⊎ ((f ≡ i → ⊥) × (getD seen f false ≡ true) × (getD todo f false ≡ false))
+        go (yes q) u s = inl q
+        go (no q) u s = inr (q, s, sym (getD-set-other todo i f false false q) ∙ u)
+
+    pub unseen-now : (f : ℕ) → getD seen′ f false ≡ false → (f ≡ i → ⊥) × (getD seen f false ≡ false)
+    unseen-now f e = go (decided (getD seen f false))
+      where
+        go : (getD seen f false ≡ true) ⊎ (getD seen f false ≡ false) → (f ≡ i → ⊥) × (getD seen f false ≡ false)
+        go (inl s) = absurd (clash (keeps f s) e)
+        go (inr s) = (λ q. clash (ap (λ x. getD seen x false) q ∙ g .within i t) s, s)
+
+    closed-now : (f : ℕ) → getD seen′ f false ≡ true → getD todo′ f false ≡ false → (h : ℕ) → getD (row f) h false ≡ true → getD seen′ h false ≡ true
+    closed-now f e n h c = go (settled-now f e n)
+      where
+        go : (f ≡ i) ⊎ ((f ≡ i → ⊥) × (getD seen f false ≡ true) × (getD todo f false ≡ false)) → getD seen′ h false ≡ true
+        go (inl q) = seen-at h ∙ ap (λ b. or b (getD seen h false)) (ap (λ x. getD (row x) h false) (sym q) ∙ c)
+        go (inr r) = keeps h (g .closed f (r .1) (r .2) h c)
 
     over-now : (f : ℕ) → (f ≡ i) ⊎ (getD todo f false ≡ false) → getD seen f false ≡ true → (getD seen′ f false ≡ true) × (getD todo′ f false ≡ false)
     over-now f u s = (keeps f s, todo-at f ∙ never-due (getD (set todo i false) f false) (getD (row i) f false) (getD seen f false) (unset f u) s)
@@ -158,7 +173,7 @@ module _ (row : ℕ → List Bool) (long : (f : ℕ) → length (row f) ≡ 32) 
     over-all f (inl e) = over-now f (inl e) (rw e (g .within i t))
     over-all f (inr h) = over-now f (inr (g .over f h .1)) (g .over f h .0)
 
-    visited : Going row P begin todo′ seen′ (i ∷ done)
+    pub visited : Going row P begin todo′ seen′ (i ∷ done)
     visited =
         record {
           size = seen-length ∙ g .size;

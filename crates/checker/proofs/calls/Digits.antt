@@ -163,3 +163,9 @@ no-member i = subst (λ l. getD l i false ≡ false) (sym no-bits) (go 32 i)
     go zero j = refl
     go (suc n) zero = refl
     go (suc n) (suc j) = go n j
+
+-- a set with a first member is not 0
+pub some : (x : ℕ) → first (bitsOf 32 x) < 32 → 0 < x
+unfolding first bitsOf
+some zero h = absurd (omega arith)
+some (suc x) h = omega arith

@@ -6,24 +6,19 @@ use mathlib.Core.List.{List}
 use mathlib.Core.Path.{_≡_, refl, sym, ap, ap₂, _∙_, subst}
 use native.Mathlib.Omega.{arith}
 use native.Mathlib.Decide.{decLt}
-use lib.ListN.{length, getD, set, replicate}
-use lib.Dec.{leb}
-use borrow.Author.Tests.{leb-false}
+use lib.ListN.{getD, replicate}
 use Rattle.meaning.specs.declared.How.{How}
 use Rattle.meaning.specs.declared.How.the-variants.{Never, Tail, Waits}
 use Rattle.meaning.specs.declared.Verdict.{Verdict}
 use Rattle.meaning.specs.declared.Verdict.the-variants as verdict
 use Rattle.meaning.specs.Outcome.{ok}
 use Rattle.meaning.specs.Answers.{told}
-use Rattle.meaning.specs.Sets.{first, zip, or, except}
-use Rattle.meaning.specs.Calls.{Square, entry, Walk, stay, tail, wait, Flat, IsDepth, IsReached, Shape, flat, row, start, reach, judge}
-use Rattle.meaning.specs.Calls as calls
+use Rattle.meaning.specs.Calls.{Square, entry, Walk, stay, tail, wait, Flat, IsDepth, IsReached, Shape, judge}
 use Rattle.theory.proofs.Walks.{Narrow, join, then-tail, then-wait}
 use Rattle.theory.proofs.Reach.{clash}
 use Rattle.theory.proofs.Shapes.{Judged, as-flat, as-stacked, judged, depth-only, reached-only, no-deeper}
-use Rattle.checker.specs.Bits.{bitsOf, closure, onward, level, Some, Empty, Settles, ends, goes-on}
-use Rattle.checker.specs.Bits as bits
-use Rattle.checker.specs.Scan.{goes, Within}
+use Rattle.checker.specs.Bits.{bitsOf, onward, level, Some, Empty, Settles, ends, goes-on}
+use Rattle.checker.specs.Scan.{goes, Within, Tells}
 use Rattle.checker.proofs.calls.Digits.{bits-length}
 use Rattle.checker.proofs.calls.Closing.{Closed, closure-closed, onward-length, onward-from, onward-to}
 
@@ -49,7 +44,7 @@ again : {sq : Square} {f m : ℕ} → Walk sq f f (suc m) → (k : ℕ) → (n :
 again w zero = (0, omega arith, stay)
 again {m = m} w (suc k) = let r = again w k in (suc m + r .0, omega (arith, r .1), join w (r .2))
 
-one : (f : ℕ) → getD (bitsOf 32 1) f false ≡ true → f ≡ 0
+pub one : (f : ℕ) → getD (bitsOf 32 1) f false ≡ true → f ≡ 0
 unfolding bitsOf
 one zero e = refl
 one (suc f) e = absurd (clash e (none 31 f))
@@ -59,18 +54,11 @@ one (suc f) e = absurd (clash e (none 31 f))
     none (suc n) zero = refl
     none (suc n) (suc j) = none n j
 
-one-in : getD (bitsOf 32 1) 0 false ≡ true
+pub one-in : getD (bitsOf 32 1) 0 false ≡ true
 unfolding bitsOf
 one-in = refl
 
--- rows of tails and of waits that say what the square says
-pub record Tells (sq : Square) (count : ℕ) (tails waits : ℕ → List Bool) : Type 0 where
-  pub tail-size : (f : ℕ) → length (tails f) ≡ 32
-  pub wait-size : (f : ℕ) → length (waits f) ≡ 32
-  pub tail-at : (f g : ℕ) → getD (tails f) g false ≡ goes false (entry sq f g)
-  pub wait-at : (f g : ℕ) → getD (waits f) g false ≡ goes true (entry sq f g)
-
-module _ (sq : Square) (count : ℕ) (within : Within count sq) (tails waits : ℕ → List Bool) (tells : Tells sq count tails waits) where
+module _ (sq : Square) (count : ℕ) (within : Within count sq) (tails waits : ℕ → List Bool) (tells : Tells sq tails waits) where
   abbrev L : ℕ → List Bool
   L n = level tails waits count n
 
@@ -81,14 +69,14 @@ module _ (sq : Square) (count : ℕ) (within : Within count sq) (tails waits : �
   levels : (n : ℕ) → Closed tails (λ f. Walk sq 0 f n) (starts n) (L n)
   unfolding level
   levels zero =
-      closure-closed tails (tells .tail-size) (λ f. Walk sq 0 f 0) (λ f g w e. then-tail w (goes-tail (entry sq f g) (sym (tells .tail-at f g) ∙ e)))
+      closure-closed tails (tells .tail-size) (λ f. Walk sq 0 f 0) (λ f g w e. then-tail w (goes-tail (entry sq f g) (sym (tells .tail-at f g (0, w)) ∙ e)))
       (bitsOf 32 1) (bits-length 32 1) (λ f e. subst (λ g. Walk sq 0 g 0) (sym (one f e)) stay)
   levels (suc n) =
-      closure-closed tails (tells .tail-size) (λ f. Walk sq 0 f (suc n)) (λ f g w e. then-tail w (goes-tail (entry sq f g) (sym (tells .tail-at f g) ∙ e)))
+      closure-closed tails (tells .tail-size) (λ f. Walk sq 0 f (suc n)) (λ f g w e. then-tail w (goes-tail (entry sq f g) (sym (tells .tail-at f g (suc n, w)) ∙ e)))
       (onward count waits (L n)) (onward-length waits (tells .wait-size) (L n) count) (λ f e. from f (onward-from waits (tells .wait-size) (L n) count f e) (levels n))
     where
       from : (g : ℕ) → (f : ℕ) × (f < count) × (getD (L n) f false ≡ true) × (getD (waits f) g false ≡ true) → Closed tails (λ f. Walk sq 0 f n) (starts n) (L n) → Walk sq 0 g (suc n)
-      from g r c = then-wait (c .known (r .0) (r .2)) (goes-wait (entry sq (r .0) g) (sym (tells .wait-at (r .0) g) ∙ r .3))
+      from g r c = then-wait (c .known (r .0) (r .2)) (goes-wait (entry sq (r .0) g) (sym (tells .wait-at (r .0) g (n, c .known (r .0) (r .2))) ∙ r .3))
 
   caller : (f g : ℕ) → entry sq f g ≡ Waits → f < count
   caller f g e = go (decLt f count)
@@ -99,10 +87,10 @@ module _ (sq : Square) (count : ℕ) (within : Within count sq) (tails waits : �
 
   walked : {f h n : ℕ} (m : ℕ) → getD (L m) f false ≡ true → Walk sq f h n → getD (L (m + n)) h false ≡ true
   walked {h = h} m s stay = let e : m ≡ m + 0 = omega arith in subst (λ k. getD (L k) h false ≡ true) e s
-  walked m s (tail {f} {g} e v) = walked m (levels m .closed f s g (tells .tail-at f g ∙ ap (goes false) e)) v
+  walked m s (tail {f} {g} e v) = walked m (levels m .closed f s g (tells .tail-at f g (m, levels m .known f s) ∙ ap (goes false) e)) v
   walked {h = h} m s (wait {f} {g} {n = n} e v) =
       let q : suc m + n ≡ m + suc n = omega arith in
-      let k = levels (suc m) .begun g (onward-to waits (tells .wait-size) (L m) count f g (caller f g e) s (tells .wait-at f g ∙ ap (goes true) e)) in
+      let k = levels (suc m) .begun g (onward-to waits (tells .wait-size) (L m) count f g (caller f g e) s (tells .wait-at f g (m, levels m .known f s) ∙ ap (goes true) e)) in
       subst (λ k. getD (L k) h false ≡ true) q (walked (suc m) k v)
 
   in-level : {f n : ℕ} → Walk sq 0 f n → getD (L n) f false ≡ true
@@ -146,27 +134,3 @@ module _ (sq : Square) (count : ℕ) (within : Within count sq) (tails waits : �
 
   pub settled : count ≤ 32 → {R : ℕ} → IsReached sq R → {v : Verdict} → Settles tails waits count R v → v ≡ told (ok (judge sq))
   settled c i s = same-shape (judged sq (narrow c)) i s
-
--- visiting by rows that are the square's is its reach
-module _ (sq : Square) (rows : ℕ → List Bool) (same : (f : ℕ) → f < 32 → rows f ≡ row sq f) where
-  abbrev left : (ℕ → List Bool) → (todo seen : List Bool) → List Bool
-  left r todo seen = zip or (set todo (first todo) false) (except (r (first todo)) seen)
-
-  abbrev met : (ℕ → List Bool) → (todo seen : List Bool) → List Bool
-  met r todo seen = zip or (r (first todo)) seen
-
-  visits-same : (n : ℕ) (todo seen : List Bool) → bits.visits n rows todo seen ≡ calls.visits n sq todo seen
-  unfolding bits.visits calls.visits
-  visits-same zero todo seen = refl
-  visits-same (suc n) todo seen = go (leb 32 (first todo)) refl (visits-same n (left rows todo seen) (met rows todo seen))
-    where
-      go : (b : Bool) → leb 32 (first todo) ≡ b → bits.visits n rows (left rows todo seen) (met rows todo seen) ≡ calls.visits n sq (left rows todo seen) (met rows todo seen)
-          → _≡_ {A = List Bool} (elim b as (λ _. List Bool) [ true ↦ seen | false ↦ bits.visits n rows (left rows todo seen) (met rows todo seen) ])
-          (elim b as (λ _. List Bool) [ true ↦ seen | false ↦ calls.visits n sq (left (row sq) todo seen) (met (row sq) todo seen) ])
-      go true q ih = refl
-      go false q ih =
-          ih ∙ ap (λ r. calls.visits n sq (zip or (set todo (first todo) false) (except r seen)) (zip or r seen)) (same (first todo) (leb-false 32 (first todo) q))
-
-  pub closure-reach : closure rows (bitsOf 32 1) ≡ reach sq
-  unfolding closure reach start bitsOf
-  closure-reach = visits-same 32 (bitsOf 32 1) (bitsOf 32 1)

@@ -1,49 +1,49 @@
--- Tables of masks that say what the square says. Assumes nothing.
-use Prim.Native.Nat.{ℕ, zero, suc, _+_, _≤_, _<_}
+-- Sets that say what the rows of a square say. Assumes nothing.
+use Prim.Native.Nat.{ℕ, _≤_, _<_}
 use mathlib.Core.Bool.{Bool, true, false}
 use mathlib.Core.List.{List}
-use mathlib.Core.Path.{_≡_, refl, sym, ap, ap₂, _∙_, subst}
+use mathlib.Core.Path.{_≡_, refl, sym, ap, ap₂, _∙_}
 use native.Mathlib.Omega.{arith}
 use native.Mathlib.Decide.{ℕ-discrete, decLt}
-use lib.ListN.{length, getD, set, replicate, length-set, List·getD-eq-default}
+use lib.ListN.{length, getD, set, replicate, List·getD-eq-default}
 use lib.Seq.{getD-set-same, getD-set-other, ext-getD}
 use Rattle.meaning.specs.declared.How.{How}
 use Rattle.meaning.specs.declared.How.the-variants.{Never, Tail, Waits}
-use Rattle.meaning.specs.Sets.{zip, or, how-many}
-use Rattle.meaning.specs.Calls.{Square, entry, called, row, IsReached}
-use Rattle.theory.proofs.Bools.{upto-length, upto-at, zip-at}
-use Rattle.theory.proofs.Reach.{reached}
-use Rattle.checker.specs.Bits.{bitsOf, filled, member, closure}
-use Rattle.checker.specs.Scan.{goes, Within}
-use Rattle.checker.proofs.calls.Digits.{bits-length, no-member}
+use Rattle.meaning.specs.Sets.{upto, zip, or}
+use Rattle.meaning.specs.Calls.{Square, entry, stronger, called, row, Reaches}
+use Rattle.theory.proofs.Bools.{upto-length, upto-at, zip-at, zip-length}
+use Rattle.checker.specs.Bits.{bitsOf, filled, member}
+use Rattle.checker.specs.Scan.{goes, Led, Within, Tells}
+use Rattle.checker.proofs.calls.Digits.{bits-length}
 use Rattle.checker.proofs.calls.Filling.{filled-length, filled-at, filled-past}
-use Rattle.checker.proofs.calls.Levels.{Tells, closure-reach}
 
--- a table of 32 whose first n rows are given, and whose others are empty
-pub record Masked (table : List ℕ) (n : ℕ) (g : ℕ → List Bool) : Type 0 where
-  pub size : length table ≡ 32
-  pub given : (i : ℕ) → i < n → member table i ≡ g i
-  pub empty : (i : ℕ) → n ≤ i → getD table i 0 ≡ 0
+-- a list by its 32 entries
+by-calls : (l : List Bool) (test : ℕ → Bool) → length l ≡ 32 → ((g : ℕ) → g < 32 → getD l g false ≡ test g) → l ≡ upto 32 test
+by-calls l test e at = ext-getD false l (upto 32 test) (e ∙ sym (upto-length 32 test)) (λ g k. at g (omega arith) ∙ sym (upto-at 32 test g false (omega arith)))
 
-pub mask-start : (g : ℕ → List Bool) → Masked (replicate 32 0) 0 g
-mask-start g = record { size = refl; given = λ i l. absurd (omega arith); empty = λ i l. none 32 i }
+-- the set of those that a row calls, with one call more
+pub led-start : Led (replicate 32 Never) 0
+unfolding bitsOf upto
+led-start = refl
+
+pub led-more : (row : List How) (x y g : ℕ) (h : How) → length row ≡ 32 → g < 32 → called h ≡ true → Led row x → bitsOf 32 y ≡ set (bitsOf 32 x) g true → Led (set row g h) y
+led-more row x y g h l k c p e = by-calls (bitsOf 32 y) (λ i. called (getD (set row g h) i Never)) (bits-length 32 y) (λ i q. ap (λ b. getD b i false) e ∙ at i q (ℕ-discrete i g))
   where
-    none : (n j : ℕ) → _≡_ {A = ℕ} (getD (replicate n 0) j 0) 0
-    none zero j = refl
-    none (suc n) zero = refl
-    none (suc n) (suc j) = none n j
+    at : (i : ℕ) → i < 32 → Dec (i ≡ g) → getD (set (bitsOf 32 x) g true) i false ≡ called (getD (set row g h) i Never)
+    at i q (yes n) =
+        rw n (getD-set-same (bitsOf 32 x) g true false (omega (arith, bits-length 32 x)) ∙ sym (ap called (getD-set-same row g h Never (omega arith)) ∙ c))
+    at i q (no n) =
+        getD-set-other (bitsOf 32 x) g i true false n ∙ ap (λ b. getD b i false) p ∙ upto-at 32 (λ j. called (getD row j Never)) i false q ∙ sym (ap called (getD-set-other row g i h Never n))
 
-pub mask-set : {table : List ℕ} (n : ℕ) {g : ℕ → List Bool} (x : ℕ) → Masked table n g → n < 32 → bitsOf 32 x ≡ g n → Masked (set table n x) (n + 1) g
-mask-set {table} n {g} x m l e =
-    record {
-      size = length-set table n x ∙ m .size;
-      given = λ i h. go i h (ℕ-discrete i n);
-      empty = λ i h. getD-set-other table n i x 0 (λ q. omega arith) ∙ m .empty i (omega arith);
-    }
-  where
-    go : (i : ℕ) → i < n + 1 → Dec (i ≡ n) → member (set table n x) i ≡ g i
-    go i h (yes q) = rw q (ap (bitsOf 32) (getD-set-same table n x 0 (omega (arith, m .size))) ∙ e)
-    go i h (no q) = ap (bitsOf 32) (getD-set-other table n i x 0 q) ∙ m .given i (omega arith)
+pub wait-called : (h : How) → called (stronger h Waits) ≡ true
+wait-called Never = refl
+wait-called Tail = refl
+wait-called Waits = refl
+
+pub tail-called : (h : How) → called (stronger h Tail) ≡ true
+tail-called Never = refl
+tail-called Tail = refl
+tail-called Waits = refl
 
 -- the functions that a row calls in one way, and in both
 abbrev pub ways : Square → (count : ℕ) → Bool → ℕ → List Bool
@@ -57,61 +57,43 @@ either-way Never = refl
 either-way Tail = refl
 either-way Waits = refl
 
-goes-none : (waiting : Bool) (h : How) → h ≡ Never → goes waiting h ≡ false
-goes-none waiting h e = ap (goes waiting) e
+-- tables whose entries at f are the masks of row f
+abbrev pub Masked : Square → (count : ℕ) → (tails waits : List ℕ) → ℕ → Type 0
+Masked sq count tails waits f = (member tails f ≡ ways sq count false f) × (member waits f ≡ ways sq count true f)
+
+pub masked-here : (sq : Square) (count : ℕ) (tails waits : List ℕ) (i t w : ℕ) → i < length tails → i < length waits → bitsOf 32 t ≡ ways sq count false i → bitsOf 32 w ≡ ways sq count true i
+    → Masked sq count (set tails i t) (set waits i w) i
+masked-here sq count tails waits i t w l k a b = (ap (bitsOf 32) (getD-set-same tails i t 0 l) ∙ a, ap (bitsOf 32) (getD-set-same waits i w 0 k) ∙ b)
+
+pub masked-other : (sq : Square) (count : ℕ) (tails waits : List ℕ) (i t w f : ℕ) → (f ≡ i → ⊥) → Masked sq count tails waits f → Masked sq count (set tails i t) (set waits i w) f
+masked-other sq count tails waits i t w f n m = (ap (bitsOf 32) (getD-set-other tails i f t 0 n) ∙ m .0, ap (bitsOf 32) (getD-set-other waits i f w 0 n) ∙ m .1)
 
 module _ (sq : Square) (count : ℕ) (small : count ≤ 32) (within : Within count sq) where
   way-at : (waiting : Bool) (f g : ℕ) → getD (ways sq count waiting f) g false ≡ goes waiting (entry sq f g)
   way-at waiting f g = go (decLt g count) (decLt g 32)
     where
+      none : count ≤ g → goes waiting (entry sq f g) ≡ false
+      none l = ap (goes waiting) (within .callees f g l)
+
       go : Dec (g < count) → Dec (g < 32) → getD (ways sq count waiting f) g false ≡ goes waiting (entry sq f g)
       go (yes l) d = filled-at false count (λ x. goes waiting (entry sq f x)) g false l
-      go (no l) (yes k) =
-          filled-past false count (λ x. goes waiting (entry sq f x)) g false (omega arith) k ∙ sym (goes-none waiting (entry sq f g) (within .callees f g (omega arith)))
+      go (no l) (yes k) = filled-past false count (λ x. goes waiting (entry sq f x)) g false (omega arith) k ∙ sym (none (omega arith))
       go (no l) (no k) =
-          List·getD-eq-default (ways sq count waiting f) false (omega (arith, filled-length false count (λ x. goes waiting (entry sq f x)) small))
-          ∙ sym (goes-none waiting (entry sq f g) (within .callees f g (omega arith)))
+          List·getD-eq-default (ways sq count waiting f) false (omega (arith, filled-length false count (λ x. goes waiting (entry sq f x)) small)) ∙ sym (none (omega arith))
 
-  outside : (table : List ℕ) (rows : ℕ → List Bool) → Masked table count rows → (f g : ℕ) → count ≤ f → getD (member table f) g false ≡ false
-  outside table rows m f g l = ap (λ x. getD (bitsOf 32 x) g false) (m .empty f l) ∙ no-member g
+  pub both-row : (f : ℕ) → both-ways sq count f ≡ row sq f
+  unfolding row
+  both-row f =
+      let a = filled-length false count (λ x. goes false (entry sq f x)) small in
+      let b = filled-length false count (λ x. goes true (entry sq f x)) small in
+      by-calls (both-ways sq count f) (λ g. called (entry sq f g)) (zip-length or (ways sq count false f) (ways sq count true f) (a ∙ sym b) ∙ a)
+      (λ g l. zip-at or refl (ways sq count false f) (ways sq count true f) g (a ∙ sym b) ∙ ap₂ or (way-at false f g) (way-at true f g) ∙ either-way (entry sq f g))
 
-  mask-at : (waiting : Bool) (table : List ℕ) → Masked table count (ways sq count waiting) → (f g : ℕ) → getD (member table f) g false ≡ goes waiting (entry sq f g)
-  mask-at waiting table m f g = go (decLt f count)
-    where
-      go : Dec (f < count) → getD (member table f) g false ≡ goes waiting (entry sq f g)
-      go (yes l) = ap (λ x. getD x g false) (m .given f l) ∙ way-at waiting f g
-      go (no l) = outside table (ways sq count waiting) m f g (omega arith) ∙ sym (goes-none waiting (entry sq f g) (within .callers f g (omega arith)))
-
-  pub tells : (tails waits : List ℕ) → Masked tails count (ways sq count false) → Masked waits count (ways sq count true) → Tells sq count (member tails) (member waits)
-  tells tails waits t w =
+  pub tells : (tails waits : List ℕ) → ((f : ℕ) → Reaches sq f → Masked sq count tails waits f) → Tells sq (member tails) (member waits)
+  tells tails waits m =
       record {
         tail-size = λ f. bits-length 32 (getD tails f 0);
         wait-size = λ f. bits-length 32 (getD waits f 0);
-        tail-at = mask-at false tails t;
-        wait-at = mask-at true waits w;
+        tail-at = λ f g r. ap (λ l. getD l g false) (m f r .0) ∙ way-at false f g;
+        wait-at = λ f g r. ap (λ l. getD l g false) (m f r .1) ∙ way-at true f g;
       }
-
-  both-at : (f g : ℕ) → getD (both-ways sq count f) g false ≡ called (entry sq f g)
-  both-at f g =
-      let a = filled-length false count (λ x. goes false (entry sq f x)) small in
-      let b = filled-length false count (λ x. goes true (entry sq f x)) small in
-      zip-at or refl (ways sq count false f) (ways sq count true f) g (a ∙ sym b) ∙ ap₂ or (way-at false f g) (way-at true f g) ∙ either-way (entry sq f g)
-
-  row-same : (both : List ℕ) → Masked both count (both-ways sq count) → (f : ℕ) → member both f ≡ row sq f
-  unfolding row
-  row-same both m f = ext-getD false (member both f) (row sq f) (a ∙ sym b) (λ g l. at g (decLt f count) ∙ sym (upto-at 32 (λ x. called (entry sq f x)) g false (omega (arith, a))))
-    where
-      a : length (member both f) ≡ 32
-      a = bits-length 32 (getD both f 0)
-
-      b : length (row sq f) ≡ 32
-      b = upto-length 32 (λ x. called (entry sq f x))
-
-      at : (g : ℕ) → Dec (f < count) → getD (member both f) g false ≡ called (entry sq f g)
-      at g (yes l) = ap (λ x. getD x g false) (m .given f l) ∙ both-at f g
-      at g (no l) = outside both (both-ways sq count) m f g (omega arith) ∙ sym (ap called (within .callers f g (omega arith)))
-
-  -- how many functions are reached
-  pub reached-by : (both : List ℕ) → Masked both count (both-ways sq count) → (x R : ℕ) → bitsOf 32 x ≡ closure (member both) (bitsOf 32 1) → R ≡ how-many (bitsOf 32 x) → IsReached sq R
-  reached-by both m x R e r =
-      subst (IsReached sq) (sym (r ∙ ap how-many (e ∙ closure-reach sq (member both) (λ f l. row-same both m f)))) (reached sq (λ f g l. within .callees f g (omega arith)))

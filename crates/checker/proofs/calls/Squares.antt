@@ -1,7 +1,7 @@
 -- The square that the rows make is the square of the file, and no call stands outside the functions that are declared. Assumes nothing.
 use Prim.Native.Nat.{ℕ, zero, suc, _+_, _≤_, _<_}
 use mathlib.Core.List.{List, [], _∷_, _++_, append-nil, append-assoc}
-use mathlib.Core.Path.{_≡_, refl, sym, ap, _∙_}
+use mathlib.Core.Path.{_≡_, refl, sym, ap, _∙_, subst}
 use native.Mathlib.Omega.{arith}
 use native.Mathlib.Numerals.{add-one}
 use native.Mathlib.Decide.{decLt}
@@ -13,11 +13,13 @@ use Rattle.meaning.specs.declared.How.the-variants.{Never, Tail, Waits}
 use Rattle.meaning.specs.Syntax.{Term, Branches, File, GV, AT, MK, CL, TL, OP, LK, NU, AR, IF, BR, end}
 use Rattle.meaning.specs.Plain.{no-body}
 use Rattle.meaning.specs.Machine.{body-of}
-use Rattle.meaning.specs.Calls.{calls, calls-branches, calls-from, call, Square, entry, noted, fill, no-calls, square}
+use Rattle.meaning.specs.Calls.{calls, calls-branches, calls-from, call, Square, entry, noted, fill, no-calls, square, judge, shape, Reaches}
+use Rattle.theory.proofs.Shapes.{square-narrow}
 use Rattle.standing.specs.Table.{Declared}
 use Rattle.checker.specs.Bits.{filled}
-use Rattle.checker.specs.Scan.{noted-in, no-row, rowIn, squareIn, Counted, Within}
+use Rattle.checker.specs.Scan.{noted-in, no-row, rowIn, squareIn, Counted, Within, Kept}
 use Rattle.checker.proofs.calls.Filling.{fill-start, fill-in, filled-length, filled-at, filled-past}
+use Rattle.checker.proofs.calls.Keeping.{narrow, reaches-inside, judge-kept, within-kept}
 use Rattle.checker.proofs.calls.Rows.{fill-row, fill-row-append, row-is, row-within}
 
 fill-append : (a b : List Call) (sq : Square) → fill (a ++ b) sq ≡ fill b (fill a sq)
@@ -70,6 +72,10 @@ from-append k [] b = let e : k ≡ k + 0 = omega arith in ap (λ n. calls-from n
 from-append k (t ∷ a) b =
     let e : suc k + length a ≡ k + suc (length a) = omega arith in
     ap (λ l. calls t k ++ l) (from-append (suc k) a b ∙ ap (λ n. calls-from (suc k) a ++ calls-from n b) e) ∙ sym (append-assoc (calls t k) (calls-from (suc k) a) (calls-from (k + suc (length a)) b))
+
+pub row-in : (bytes table : List ℕ) (count f : ℕ) → f < count → getD (squareIn bytes table count) f [] ≡ rowIn bytes table f
+unfolding squareIn
+row-in bytes table count f l = filled-at no-row count (λ g. rowIn bytes table g) f [] l
 
 module _ (file : File) (bytes table : List ℕ) (declared : Declared file bytes table) where
   abbrev n : ℕ
@@ -125,7 +131,7 @@ module _ (file : File) (bytes table : List ℕ) (declared : Declared file bytes 
   within = record { callers = outside; callees = λ f g h. go f g h (decLt f n) }
     where
       go : (f g : ℕ) → n ≤ g → Dec (f < n) → entry (squareIn bytes table n) f g ≡ Never
-      go f g h (yes l) = ap (λ r. getD r g Never) (filled-at no-row n rows f [] l) ∙ row-within file bytes table declared f g l h
+      go f g h (yes l) = ap (λ r. getD r g Never) (row-in bytes table n f l) ∙ row-within file bytes table declared f g l h
       go f g h (no l) = outside f g (omega arith)
 
   pub counted : (count : ℕ) → Counted table count → count ≡ n
@@ -135,3 +141,19 @@ module _ (file : File) (bytes table : List ℕ) (declared : Declared file bytes 
       go (yes l) d = absurd (omega (arith, declared .functions, declared .few count, declared .parameters count l, c .behind (omega (arith, declared .functions))))
       go (no l) (yes k) = absurd (c .before n k (declared .no-function n (omega arith) (omega (arith, c .small))))
       go (no l) (no k) = omega arith
+
+  pub within-square : Within n (square file)
+  within-square = subst (Within n) square-is within
+
+  -- the row of a function that is reached
+  pub row-reached : (f : ℕ) → Reaches (square file) f → getD (square file) f [] ≡ rowIn bytes table f
+  row-reached f r =
+      ap (λ sq. getD sq f []) (sym square-is) ∙ row-in bytes table n f (reaches-inside (square file) n (declared .first) within-square f r)
+
+  -- a square with these rows alone
+  pub kept-within : (sq : Square) → Kept (square file) sq → (count : ℕ) → Counted table count → Within count sq
+  kept-within sq k count c = subst (λ m. Within m sq) (sym (counted count c)) (within-kept k n (declared .functions) within-square)
+
+  pub kept-shape : (sq : Square) → Kept (square file) sq → judge sq ≡ shape file
+  unfolding shape
+  kept-shape sq k = judge-kept k (square-narrow file) (narrow sq n (declared .functions) (within-kept k n (declared .functions) within-square))

@@ -1,22 +1,19 @@
 -- A term and a branch list by the bytes, step by step: what a node or a branch asks of the one that follows, and what it answers from that
 -- one's answer. Assumes nothing.
-use Prim.Native.Nat.{ℕ, _+_, _≤_, _<_}
+use Prim.Native.Nat.{ℕ, _+_, _≤_}
 use mathlib.Core.Path.{_≡_, refl, sym, ap, _∙_, subst}
-use mathlib.Core.List.{List, [], _∷_}
-use mathlib.Core.Bool.{Bool, true, false}
+use mathlib.Core.List.{List, []}
+use mathlib.Core.Bool.{true, false}
 use native.Mathlib.Omega.{arith}
 use lib.ListN.{length}
 use lib.Dec.{eqb}
 use borrow.Author.Tests.{eq-eqb, ne-eqb}
 use Rattle.meaning.specs.declared.Slot.{Slot}
-use Rattle.meaning.specs.Choice.{pick}
-use Rattle.meaning.specs.Marks.{findMark, markOf, numberOf, rowAt}
-use Rattle.meaning.specs.Syntax.{Term, Branches, Constructor, File}
-use Rattle.meaning.specs.Plain.{place-of}
+use Rattle.meaning.specs.Marks.{findMark, rowAt}
 use Rattle.meaning.specs.Outcome.{Outcome, ok, refuse, then}
 use Rattle.meaning.specs.Ownership.{check}
 use Rattle.standing.specs.Bytes.{markAt}
-use Rattle.standing.specs.Stands.{Stands, Each, count}
+use Rattle.standing.specs.Stands.{Stands, count}
 use Rattle.standing.specs.Stands as stands
 use Rattle.checker.specs.declared.ownership.Taken.{Taken}
 use Rattle.checker.specs.declared.reading.Then.{Then}

@@ -1,6 +1,6 @@
 -- What a record takes, in the two parts that the code has: a list or the closing of the path, or a slot or two by their kinds; and the slots
 -- that are spent and bound, in two steps. Assumes nothing.
-use Prim.Native.Nat.{ℕ, _+_, _%_, _≤_, _<_}
+use Prim.Native.Nat.{ℕ, _%_, _≤_, _<_}
 use mathlib.Core.Path.{_≡_, refl, sym, ap, ap₂, _∙_, subst}
 use mathlib.Core.List.{List}
 use mathlib.Core.Bool.{Bool, true, false}
@@ -16,7 +16,7 @@ use Rattle.checker.specs.declared.slots.Want.{Want}
 use Rattle.checker.specs.declared.slots.Want.the-variants as want
 use Rattle.checker.specs.declared.ownership.Taken.{Taken}
 use Rattle.checker.specs.Slots.{unbound}
-use Rattle.checker.specs.Ownership.{fine, fault, onFine, takeKind, takeOf, pairOf, takenOf, manyOf, takesMany, firstPlace, secondPlace, namedOf, twoOf, namesOf}
+use Rattle.checker.specs.Ownership.{fault, onFine, takeKind, takeOf, pairOf, takenOf, manyOf, takesMany, firstPlace, secondPlace, namedOf, twoOf, namesOf}
 
 -- ---- a list, or the closing of the path
 many-same : (b c d e : Bool) (g h i j x y : Taken) → pick b true (pick c true (pick d true (pick e true false))) ≡ true

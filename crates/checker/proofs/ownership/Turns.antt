@@ -5,26 +5,24 @@ use mathlib.Core.List.{List, [], _∷_}
 use mathlib.Core.Bool.{Bool, true, false, _||_}
 use native.Mathlib.Omega.{arith}
 use native.Mathlib.Numerals.{add-one}
-use lib.ListN.{length, set, getD, drop, drop-of-length-le, length-set}
+use lib.ListN.{length, set, getD, drop, drop-of-length-le}
 use lib.Dec.{leb, ltb, eqb}
 use lib.Bits.{bitOr}
 use borrow.Author.Tests.{le-leb, lt-leb, lt-ltb, le-ltb, eq-eqb, ne-eqb}
 use Rattle.meaning.specs.declared.Kind.{Kind}
 use Rattle.meaning.specs.declared.Kind.the-variants as kind
 use Rattle.meaning.specs.declared.Slot.{Slot}
-use Rattle.meaning.specs.declared.MarkRow.{MarkRow}
 use Rattle.meaning.specs.Choice.{pick}
 use Rattle.meaning.specs.Sets.{first}
-use Rattle.meaning.specs.Marks.{rowAt}
 use Rattle.meaning.specs.Ownership as tree
 use Rattle.standing.specs.Bytes.{byteAt, arityIn, fieldsIn}
 use Rattle.checker.specs.declared.slots.Want.{Want}
 use Rattle.checker.specs.declared.ownership.Taken.{Taken}
 use Rattle.checker.specs.OwnershipBits.{bitsOf}
 use Rattle.checker.specs.Slots.{kindOf, usedIn, slotOf, slotsOf, usedKind, nowKind, spentBy, unbound, bound-slot, wantOf, spendsOf, testOf, wantAt, kindAt, keptOf}
-use Rattle.checker.specs.Ownership.{fine, fault, onFine, takeKind, takeOf, barsOf, listOf, closeOf, namedBy, pastOf, laidOf, creditsOf, branchOf}
+use Rattle.checker.specs.Ownership.{fine, fault, onFine, takeKind, takeOf, barsOf, listOf, closeOf, laidOf, creditsOf, branchOf}
 use Rattle.checker.proofs.ownership.Bits.{bits-none, bits-length}
-use Rattle.checker.proofs.ownership.Spending.{slots-length, spent-length, spent-none, spent-first, spent-at}
+use Rattle.checker.proofs.ownership.Spending.{slots-length, spent-none, spent-first, spent-at}
 
 -- ---- a slot's test
 module _ (k : Kind) (w : Want) (barred : Bool) where

@@ -1,5 +1,4 @@
 -- `checker::bodies::plain_size` meets its contract. Assumes nothing.
-use borrow.Author.Needs.{needs}
 use Rattle.checker.proofs.bodies.plain_size.Statement.{statement}
 use Rattle.checker.proofs.bodies.plain_size.Tie as tie
 use mathlib.Core.Path.{sym, _∙_}

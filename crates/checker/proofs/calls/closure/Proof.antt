@@ -16,6 +16,7 @@ use lib.ListN.{set}
 use borrow.Author.Tests.{le-leb, lt-leb}
 use Rattle.meaning.specs.Sets.{first, zip, or, except}
 use Rattle.checker.specs.Bits.{bitsOf, member, visits, closure}
+use Rattle.checker.proofs.calls.Digits.{some}
 
 stop : (n : ℕ) (row : ℕ → List Bool) (todo seen : List Bool) → 32 ≤ first todo → visits n row todo seen ≡ seen
 unfolding visits
@@ -33,12 +34,6 @@ turn n row todo seen i h e l =
 done : (row : ℕ → List Bool) (todo seen : List Bool) → visits 0 row todo seen ≡ seen
 unfolding visits
 done row todo seen = refl
-
--- a set with a first member is not 0
-some : (x : ℕ) → first (bitsOf 32 x) < 32 → 0 < x
-unfolding first bitsOf
-some zero h = absurd (omega arith)
-some (suc x) h = omega arith
 
 abbrev Inv-loop : tie.InvT-loop
 Inv-loop rows start todo₀ seen₀ k₀ todo seen k = (k ≤ 32) × (closure (member rows) (bitsOf 32 start) ≡ visits (32 - k) (member rows) (bitsOf 32 todo) (bitsOf 32 seen))
