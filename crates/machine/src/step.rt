@@ -108,12 +108,16 @@ fn number(file: &[u8], work: &mut [u32], s: State) -> State
 fn sum(op: usize, a: u32, b: u32) -> u64
     ensures { λ r. ⌜ ranged r ≡ arithmetic op a b ⌝ }
 {
-    match op {
-        0 => a as u64 + b as u64,
-        1 => if b <= a { (a - b) as u64 } else { 65536 },
-        2 => if a < b { 1 } else { 0 },
-        _ => if a == b { 1 } else { 0 },
+    if op < 2 {
+        if op == 0 {
+            return a as u64 + b as u64;
+        }
+        return if b <= a { (a - b) as u64 } else { 65536 };
     }
+    if op == 2 {
+        return if a < b { 1 } else { 0 };
+    }
+    if a == b { 1 } else { 0 }
 }
 
 // AR: bind the result of an operation, or end the run where it is outside 0..65,535.
