@@ -10,4 +10,5 @@ pub mod Needed
 pub mod Behind
 pub mod Whole
 pub mod Runs
+pub mod Tries
 pub mod First

@@ -1,5 +1,5 @@
 -- How the words stand for a state of the defined machine. Assumes nothing.
-use Prim.Native.Nat.{ℕ, suc, _+_, _*_, _/_, _≤_, _<_, max}
+use Prim.Native.Nat.{ℕ, suc, _+_, _*_, _-_, _/_, _≤_, _<_, max}
 use mathlib.Core.List.{List, [], _∷_}
 use mathlib.Core.Path.{_≡_}
 use lib.ListN.{length, getD}
@@ -7,7 +7,7 @@ use Rattle.machine.specs.Layout.{Top}
 use Rattle.machine.specs.Skips.{Known}
 use Rattle.meaning.specs.Syntax.{Sort, File}
 use Rattle.meaning.specs.Plain.{place-of}
-use Rattle.meaning.specs.Machine.{Held, Store, Frame, Step, held, function-of}
+use Rattle.meaning.specs.Machine.{Held, Store, Frame, Step, held, run, function-of}
 use Rattle.meaning.specs.Machine as M
 use Rattle.theory.proofs.Sim.{Accepted, Once}
 use Rattle.meaning.specs.Outcome.{ok}
@@ -77,6 +77,12 @@ pub record Fit (bytes decl store : List ℕ) (c : Top) : Type 0 where
   pub most : suc (length (st .under)) ≤ c .state .most
   pub high : c .state .most ≤ 32
   pub known : Known bytes decl (c .work)
+
+-- the state of a run that goes on, with so many steps left: the rest of the run is the whole run
+abbrev pub Reached : (bytes decl store₀ : List ℕ) (c₀ : Top) (limit left : ℕ) (store : List ℕ) (c : Top) → Type 0
+Reached bytes decl store₀ c₀ limit left store c =
+    (f : Fit bytes decl store₀ c₀)
+    → (g : Fit bytes decl store c) × ((n : ℕ) → run (f .file) limit (f .st) n (c₀ .state .most) ≡ run (g .file) left (g .st) (n + (limit - left)) (c .state .most))
 
 -- the words of a start that is not refused, for an accepted file
 pub record Begun (bytes decl args store work : List ℕ) : Type 0 where

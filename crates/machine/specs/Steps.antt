@@ -54,6 +54,30 @@ StepsAt Mark.other bytes decl store c store′ c′ = (store′ ≡ store) × (c
 pub record Steps (bytes decl store : List ℕ) (c : Top) (store′ : List ℕ) (c′ : Top) : Type 0 where
   pub does : StepsAt (markOf (markAt bytes (c .state .frame .at))) bytes decl store c store′ c′
 
+-- a step made, or the node left as it was
+pub record Tried (bytes decl store : List ℕ) (c : Top) (store′ : List ℕ) (c′ : Top) : Type 0 where
+  pub does : c′ .state .number ≡ 99 → Steps bytes decl store c store′ c′
+  pub stays : (c′ .state .number ≡ 99 → ⊥) → (store′ ≡ store) × (c′ .work ≡ c .work)
+
+-- the marks of the nodes
+pub data Node : ℕ → Type 0 where
+  GV : {w : ℕ} → w ≡ 0x4756 → Node w
+  AT : {w : ℕ} → w ≡ 0x4154 → Node w
+  MK : {w : ℕ} → w ≡ 0x4D4B → Node w
+  CL : {w : ℕ} → w ≡ 0x434C → Node w
+  TL : {w : ℕ} → w ≡ 0x544C → Node w
+  OP : {w : ℕ} → w ≡ 0x4F50 → Node w
+  LK : {w : ℕ} → w ≡ 0x4C4B → Node w
+  NU : {w : ℕ} → w ≡ 0x4E55 → Node w
+  AR : {w : ℕ} → w ≡ 0x4152 → Node w
+  IF : {w : ℕ} → w ≡ 0x4946 → Node w
+
+-- a node's place in the table of marks, by the distance of its letters less one
+unfoldable pub byDistance : ℕ → ℕ
+byDistance d =
+    pick (eqb d 0) 9 (pick (eqb d 6) 12 (pick (eqb d 8) 7 (pick (eqb d 14) 4 (pick (eqb d 16) 13
+    (pick (eqb d 18) 5 (pick (eqb d 23) 8 (pick (eqb d 28) 14 (pick (eqb d 29) 6 (pick (eqb d 30) 10 15)))))))))
+
 -- the credits that a mark's branches bind: one for OP
 unfoldable pub creditOf : (mark : ℕ) → ℕ
 creditOf m = pick (eqb m 9) 1 0

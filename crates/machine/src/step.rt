@@ -1,6 +1,6 @@
 // One node a step, and the run of so many steps.
 ghost use mathlib.Core.Path.{_≡_};
-ghost use Prim.Native.Nat.{ℕ, _+_, _*_, _-_, _<_, _≤_, max};
+ghost use Prim.Native.Nat.{ℕ, _+_, _*_, _-_, _/_, _<_, _≤_, max};
 ghost use lib.ListN.{length, getD, drop};
 ghost use Rattle.meaning.specs.Marks.{findMark};
 ghost use Rattle.meaning.specs.Plain.{ranged, arithmetic};
@@ -10,8 +10,8 @@ ghost use Rattle.standing.specs.Bytes.{markAt, arityIn, paramsIn, bodyIn};
 ghost use Rattle.machine.specs.Layout.{top, nuOf, atOf, arOf, gvOf, tlOf, clOf, mkOf, mkStore, conOf, openedOf, firstOf};
 ghost use Rattle.machine.specs.Skips.{Safe, thenOf, nextOf, opensOf, Skips, SkipsAll, SkipsMany, Found, EndNeeds, Keeps};
 ghost use Rattle.machine.specs.Needs.{Room, MkNeeds, CallNeeds, OpenNeeds};
-ghost use Rattle.machine.specs.Represents.{Fit, Begun};
-ghost use Rattle.machine.specs.Steps.{Steps, Opened, Chosen, creditOf, placeOf, answerOf};
+ghost use Rattle.machine.specs.Represents.{Fit, Reached, Begun};
+ghost use Rattle.machine.specs.Steps.{Steps, Tried, Node, Opened, Chosen, byDistance, creditOf, placeOf, answerOf};
 use crate::frame::Frame;
 use crate::frame::State;
 use crate::frame::Store;
@@ -35,6 +35,7 @@ use meaning::LK;
 use meaning::MK;
 use meaning::NU;
 use meaning::OP;
+use meaning::OTHER;
 use meaning::TL;
 use meaning::find_mark;
 use meaning::mark_row;
@@ -60,6 +61,12 @@ pub struct Ran {
     pub steps: u32,
     pub place: u32,
     pub frames: u32,
+}
+
+// A run that goes on: its state, and the nodes that are left to it.
+pub struct Pause {
+    pub state: State,
+    pub left: u32,
 }
 
 // The place in the table of the mark at a place.
@@ -475,6 +482,134 @@ pub(crate) fn step(
     }
 }
 
+// The place in the table of a node's mark by how far its second letter is from its first, which is another for each of the ten nodes.
+fn by_distance(distance: usize) -> usize
+    ensures { λ r. ⌜ r ≡ byDistance distance ⌝ }
+{
+    match distance {
+        0 => OP,
+        6 => NU,
+        8 => CL,
+        14 => GV,
+        16 => AR,
+        18 => AT,
+        23 => TL,
+        28 => IF,
+        29 => MK,
+        30 => LK,
+        _ => OTHER,
+    }
+}
+
+// The place in the table of the mark of the node at a place.
+fn node_mark(file: &[u8], at: usize) -> usize
+    requires { ⌜ (at + 2 ≤ length (now file)) × Node (markAt (now file) at) ⌝ }
+    ensures { λ r. ⌜ r ≡ findMark (markAt (now (file .entry)) at) ⌝ }
+{
+    by_distance((byte(file, at + 1) + 255 - byte(file, at)) % 32)
+}
+
+// The word that keeps the end of the term at a place, if it is known.
+fn kept(work: &[u32], at: usize) -> usize
+    requires { ⌜ 1088 + at / 2 < length (now work) ⌝ }
+    ensures { λ r. ⌜ r ≡ getD (now (work .entry)) (1088 + at / 2) 0 ⌝ }
+{
+    wide(work[Frame::ENDS + at / 2])
+}
+
+// Where the branch of a constructor has its term, or 0 where there is none or an end on the way is not known.
+fn known_branch(
+    file: &[u8],
+    decl: &[u32; 128],
+    work: &[u32],
+    at: usize,
+    count: usize,
+    con: usize,
+) -> usize
+    requires { ⌜ EndNeeds (now file) (now decl) (now work) × ((next : ℕ) × SkipsAll (now file) (now decl) at count next) ⌝ }
+    ensures { λ r. ⌜ ((r ≡ 0 → ⊥) → Found (now (file .entry)) (now (decl .entry)) con at count r) ⌝ }
+{
+    let mut p = at;
+    let mut left = count;
+    while 0 < left {
+        if byte(file, p + 2) == con {
+            return p + 3;
+        }
+        let known = kept(work, p + 3);
+        if known / 8192 != p + 3 {
+            return 0;
+        }
+        p = known % 8192;
+        left -= 1;
+    }
+    0
+}
+
+// OP and LK by the ends that are known: the branch that fits, or an end.
+fn known_take(
+    file: &[u8],
+    decl: &[u32; 128],
+    store: &[u32],
+    work: &mut [u32],
+    s: State,
+    credit: usize,
+) -> State
+    requires { ⌜ OpenNeeds (now file) (now decl) (now store) (top s (now work)) credit × (credit ≤ 1) ⌝ }
+    ensures { λ r. ⌜ (r .number ≡ 99 → Opened (now (file .entry)) (now (decl .entry)) (now (store .entry)) credit (top s (now (work .entry))) (top r (now (work .exit)))) × ((r .number ≡ 99 → ⊥) → now (work .exit) ≡ now (work .entry)) ⌝ }
+{
+    let at = s.frame.at;
+    let w = slot(file, work, s.frame.depth * Frame::SLOTS, at + 2);
+    let con = constructor(store, w);
+    let b = known_branch(file, decl, work, at + 4, byte(file, at + 3), con);
+    if b == 0 {
+        return finish(s, 31, 0);
+    }
+    opened(decl, store, work, s, w, con, b, credit)
+}
+
+// IF by the ends that are known: the term chosen, or an end.
+fn known_choose(file: &[u8], decl: &[u32; 128], work: &[u32], s: State) -> State
+    requires { ⌜ Room 3 (now file) (top s (now work)) × EndNeeds (now file) (now decl) (now work) × ((next : ℕ) × Skips (now file) (now decl) (s .frame .at + 3) next × (next ≤ 4096)) ⌝ }
+    ensures { λ r. ⌜ (r .number ≡ 99 → Chosen (now (file .entry)) (now (decl .entry)) (top s (now (work .entry))) (top r (now (work .entry)))) ⌝ }
+{
+    let at = s.frame.at;
+    let v = slot(file, work, s.frame.depth * Frame::SLOTS, at + 2);
+    if v != 0 {
+        return go_to(s, at + 3);
+    }
+    let known = kept(work, at + 3);
+    if known / 8192 != at + 3 {
+        return finish(s, 31, 0);
+    }
+    go_to(s, known % 8192)
+}
+
+// One node by the ends that are known; a state that has ended stands for a node that is left as it was.
+fn known_step(
+    file: &[u8],
+    decl: &[u32; 128],
+    store: &mut [u32],
+    work: &mut [u32],
+    s: State,
+) -> State
+    requires { ⌜ Fit (now file) (now decl) (now store) (top s (now work)) ⌝ }
+    ensures { λ r. ⌜ Tried (now (file .entry)) (now (decl .entry)) (now (store .entry)) (top s (now (work .entry))) (now (store .exit)) (top r (now (work .exit))) ⌝ }
+{
+    let m = node_mark(file, s.frame.at);
+    match m {
+        GV => give(file, work, s),
+        AT => atom(file, work, s),
+        MK => make(file, decl, store, work, s),
+        CL => call(file, decl, work, s),
+        TL => tail(file, decl, work, s),
+        OP | LK => known_take(file, decl, store, work, s, credit(m)),
+        NU => number(file, work, s),
+        AR => arith(file, work, s),
+        IF => known_choose(file, decl, work, s),
+        _ => finish(s, 31, 0),
+    }
+}
+
 // The place of an end: none where the run is done.
 fn place_of(s: State) -> usize
     ensures { λ r. ⌜ r ≡ placeOf s ⌝ }
@@ -498,6 +633,31 @@ pub(crate) fn first_state(decl: &[u32; 128], args: &[u32], work: &mut [u32]) -> 
     }
 }
 
+// At most so many nodes by the ends that are known: up to the first that ends the run or needs an end that is not known.
+fn known_steps(
+    file: &[u8],
+    decl: &[u32; 128],
+    store: &mut [u32],
+    work: &mut [u32],
+    s: State,
+    limit: u32,
+) -> Pause
+    requires { ⌜ Fit (now file) (now decl) (now store) (top s (now work)) ⌝ }
+    ensures { λ r. ⌜ (r .left ≤ limit) × Reached (now (file .entry)) (now (decl .entry)) (now (store .entry)) (top s (now (work .entry))) limit (r .left) (now (store .exit)) (top (r .state) (now (work .exit))) × (drop 4096 (now (work .exit)) ≡ drop 4096 (now (work .entry))) ⌝ }
+{
+    let mut cur = go_to(s, s.frame.at);
+    let mut left = limit;
+    while 0 < left {
+        let next = known_step(file, decl, store, work, cur);
+        if next.number != State::GOING {
+            return Pause { state: cur, left };
+        }
+        cur = next;
+        left -= 1;
+    }
+    Pause { state: cur, left }
+}
+
 // At most so many nodes.
 pub(crate) fn go(
     file: &[u8],
@@ -510,11 +670,10 @@ pub(crate) fn go(
     requires { ⌜ Fit (now file) (now decl) (now store) (top s (now work)) ⌝ }
     ensures { λ r. ⌜ ((f : Fit (now (file .entry)) (now (decl .entry)) (now (store .entry)) (top s (now (work .entry)))) → answerOf r (now (store .exit)) ≡ run (f .file) limit (f .st) 0 (s .most)) × (drop 4096 (now (work .exit)) ≡ drop 4096 (now (work .entry))) ⌝ }
 {
-    let mut cur = s;
-    let mut left = limit;
-    while 0 < left {
-        cur = step(file, decl, store, work, cur);
-        left -= 1;
+    let mut t = known_steps(file, decl, store, work, s, limit);
+    while 0 < t.left {
+        let cur = step(file, decl, store, work, t.state);
+        let left = t.left - 1;
         if cur.number != State::GOING {
             return Ran {
                 number: cur.number,
@@ -524,13 +683,14 @@ pub(crate) fn go(
                 frames: cur.most as u32,
             };
         }
+        t = known_steps(file, decl, store, work, cur, left);
     }
     Ran {
         number: 32,
         value: 0,
         steps: limit,
-        place: cur.frame.at as u32,
-        frames: cur.most as u32,
+        place: t.state.frame.at as u32,
+        frames: t.state.most as u32,
     }
 }
 
