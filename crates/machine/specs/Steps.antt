@@ -72,11 +72,11 @@ pub data Node : ℕ → Type 0 where
   AR : {w : ℕ} → w ≡ 0x4152 → Node w
   IF : {w : ℕ} → w ≡ 0x4946 → Node w
 
--- a node's place in the table of marks, by the distance of its letters less one
+-- a node's place in the table of marks, by the distance of its letters
 unfoldable pub byDistance : ℕ → ℕ
 byDistance d =
-    pick (eqb d 0) 9 (pick (eqb d 6) 12 (pick (eqb d 8) 7 (pick (eqb d 14) 4 (pick (eqb d 16) 13
-    (pick (eqb d 18) 5 (pick (eqb d 23) 8 (pick (eqb d 28) 14 (pick (eqb d 29) 6 (pick (eqb d 30) 10 15)))))))))
+    pick (eqb d 1) 9 (pick (eqb d 7) 12 (pick (eqb d 9) 7 (pick (eqb d 15) 4 (pick (eqb d 17) 13
+    (pick (eqb d 19) 5 (pick (eqb d 24) 8 (pick (eqb d 29) 14 (pick (eqb d 30) 6 (pick (eqb d 31) 10 15)))))))))
 
 -- the credits that a mark's branches bind: one for OP
 unfoldable pub creditOf : (mark : ℕ) → ℕ

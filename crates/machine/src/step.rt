@@ -482,21 +482,44 @@ pub(crate) fn step(
     }
 }
 
-// The place in the table of a node's mark by how far its second letter is from its first, which is another for each of the ten nodes.
+// The place in the table of a node's mark by how far its second letter is from its first, which is another for each of the ten nodes. Each of the
+// 32 distances has its arm, so that none is tested for being too large.
 fn by_distance(distance: usize) -> usize
     ensures { λ r. ⌜ r ≡ byDistance distance ⌝ }
 {
     match distance {
-        0 => OP,
-        6 => NU,
-        8 => CL,
-        14 => GV,
-        16 => AR,
-        18 => AT,
-        23 => TL,
-        28 => IF,
-        29 => MK,
-        30 => LK,
+        0 => OTHER,
+        1 => OP,
+        2 => OTHER,
+        3 => OTHER,
+        4 => OTHER,
+        5 => OTHER,
+        6 => OTHER,
+        7 => NU,
+        8 => OTHER,
+        9 => CL,
+        10 => OTHER,
+        11 => OTHER,
+        12 => OTHER,
+        13 => OTHER,
+        14 => OTHER,
+        15 => GV,
+        16 => OTHER,
+        17 => AR,
+        18 => OTHER,
+        19 => AT,
+        20 => OTHER,
+        21 => OTHER,
+        22 => OTHER,
+        23 => OTHER,
+        24 => TL,
+        25 => OTHER,
+        26 => OTHER,
+        27 => OTHER,
+        28 => OTHER,
+        29 => IF,
+        30 => MK,
+        31 => LK,
         _ => OTHER,
     }
 }
@@ -506,7 +529,7 @@ fn node_mark(file: &[u8], at: usize) -> usize
     requires { ⌜ (at + 2 ≤ length (now file)) × Node (markAt (now file) at) ⌝ }
     ensures { λ r. ⌜ r ≡ findMark (markAt (now (file .entry)) at) ⌝ }
 {
-    by_distance((byte(file, at + 1) + 255 - byte(file, at)) % 32)
+    by_distance((byte(file, at + 1) + 256 - byte(file, at)) % 32)
 }
 
 // The word that keeps the end of the term at a place, if it is known.

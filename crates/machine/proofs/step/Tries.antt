@@ -19,7 +19,7 @@ use Rattle.machine.specs.Steps.{StepsAt, Tried, Node, byDistance}
 use Rattle.machine.proofs.step.Needed.{steps-of}
 
 -- the ten marks, by the distance of their letters
-pub by-letters : (a b : ℕ) → a < 256 → b < 256 → Node (a * 256 + b) → byDistance ((b + 255 - a) % 32) ≡ findMark (a * 256 + b)
+pub by-letters : (a b : ℕ) → a < 256 → b < 256 → Node (a * 256 + b) → byDistance ((b + 256 - a) % 32) ≡ findMark (a * 256 + b)
 unfolding byDistance pick findMark markOf numberOf
 by-letters a b la lb (Node.GV e) = let x : a ≡ 71 = omega arith in let y : b ≡ 86 = omega arith in rw (x, y)
 by-letters a b la lb (Node.AT e) = let x : a ≡ 65 = omega arith in let y : b ≡ 84 = omega arith in rw (x, y)
