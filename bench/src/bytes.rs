@@ -21,8 +21,13 @@ struct Waiting {
 impl<'a> Bytes<'a> {
     /// Reads the declarations, and where each term ends.
     pub fn new(file: &'a [u8]) -> Bytes<'a> {
-        let mut bytes =
-            Bytes { file, arities: [0; CONSTRUCTORS], counts: [0; FUNCTIONS], bodies: [0; FUNCTIONS], ends: vec![0; file.len() + 1] };
+        let mut bytes = Bytes {
+            file,
+            arities: [0; CONSTRUCTORS],
+            counts: [0; FUNCTIONS],
+            bodies: [0; FUNCTIONS],
+            ends: vec![0; file.len() + 1],
+        };
         let (mut at, mut constructors, mut functions, mut bodies) = (0, 0, 0, 0);
         loop {
             match [file[at], file[at + 1]] {

@@ -194,6 +194,25 @@ pub fn file_of(length: usize) -> Vec<u8> {
     [declarations(&shapes), bodies, b"BD".to_vec(), filler(last), b"ND".to_vec()].concat()
 }
 
+/// A file like `file_of` whose function 0 reaches nearly all: it calls the first of each kind, and each useful function the next of its kind.
+pub fn reached(length: usize) -> Vec<u8> {
+    let count = (length / 110).clamp(KNOWN.len(), 29);
+    let known = |index: usize| &KNOWN[index % KNOWN.len()];
+    let next = |index: usize| if index + KNOWN.len() < count { index + KNOWN.len() } else { index };
+    let first = Signature { modes: vec![Mode::Owned, Mode::Lent, Mode::Number], result: Sort::Tree };
+    let useful = (0..count).map(|index| Signature { modes: known(index).modes.to_vec(), result: known(index).result });
+    let last = Signature { modes: vec![Mode::Number], result: Sort::Number };
+    let functions = [first].into_iter().chain(useful).chain([last]).collect();
+    let header = declarations(&Shapes { constructors: constructors(), functions });
+    let arguments: [&[u8]; 7] = [&[0, 3], &[1, 2], &[4, 5], &[2, 5], &[6, 1], &[2, 5, 7, 2, 5, 7, 2, 5], &[9]];
+    let callees = (1..=KNOWN.len()).chain([1 + count]);
+    let calls = callees.zip(arguments).flat_map(|(callee, slots)| [b"CL", &[callee as u8][..], slots].concat()).collect();
+    let body = |index: usize| [b"BD".to_vec(), (known(index).body)(1 + next(index) as u8)].concat();
+    let bodies = [b"BDAT\x00".to_vec(), calls, b"GV\x08".to_vec(), (0..count).flat_map(body).collect()].concat();
+    let rest = length - header.len() - bodies.len() - 4;
+    [header, bodies, b"BD".to_vec(), filler(rest), b"ND".to_vec()].concat()
+}
+
 /// A term of exactly so many bytes over one number slot: a chain of IF whose first terms hold constants and sums.
 fn filler(length: usize) -> Vec<u8> {
     let mut term = Vec::new();
@@ -212,6 +231,9 @@ pub fn files() -> Vec<(String, Vec<u8>)> {
     let mut files = vec![("check, 42 bytes".to_string(), REVERSAL.to_vec())];
     for length in [512, 1_024, 2_048, 4_096] {
         files.push((format!("check, {length} bytes"), file_of(length)));
+    }
+    for length in [1_024, 2_048, 4_096] {
+        files.push((format!("check, {length} bytes, all reached"), reached(length)));
     }
     files.push(("check, 4096 bytes of constants".to_string(), with_bytes(4_096)));
     files
