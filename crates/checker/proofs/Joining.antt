@@ -21,8 +21,8 @@ use Rattle.standing.specs.Table.{Declared, tableOf}
 use Rattle.standing.proofs.Declaring.{read-declared}
 use Rattle.standing.proofs.Faults.{check-file-inside}
 use Rattle.checker.specs.declared.Judged.{Judged}
-use Rattle.checker.specs.declared.ownership.Checked.{Checked}
-use Rattle.checker.specs.declared.ownership.Checked.the-variants.{Next, Unread, Fault}
+use Rattle.checker.specs.declared.bodies.Checked.{Checked}
+use Rattle.checker.specs.declared.bodies.Checked.the-variants.{Next, Unread, Fault}
 use Rattle.checker.specs.Opening.{Ends}
 use Rattle.checker.specs.declared.reading.Reached.{Reached}
 use Rattle.checker.specs.Bodies.{Finished}

@@ -1,4 +1,5 @@
 -- The laws behind the module `bodies`.
+pub mod Answers
 pub mod Meeting
 pub mod Plainness
 pub mod Terms

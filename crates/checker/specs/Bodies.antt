@@ -18,8 +18,8 @@ use Rattle.standing.specs.Table.{tableOf}
 use Rattle.checker.specs.declared.reading.Path.{Path}
 use Rattle.checker.specs.declared.reading.Read.{Read}
 use Rattle.checker.specs.declared.reading.Read.the-variants as read′
-use Rattle.checker.specs.declared.ownership.Checked.{Checked}
-use Rattle.checker.specs.declared.ownership.Checked.the-variants.{Next, Unread, Fault}
+use Rattle.checker.specs.declared.bodies.Checked.{Checked}
+use Rattle.checker.specs.declared.bodies.Checked.the-variants.{Next, Unread, Fault}
 use Rattle.checker.specs.declared.bodies.Plain.{Plain}
 use Rattle.checker.specs.Reads.{ReadsTerm, ReadsBranches}
 use Rattle.checker.specs.Opening.{ReadsBody}
@@ -55,7 +55,7 @@ pub record Plainly (f : List ℕ) (at : ℕ) (slots : List Slot) (p : Path) (r :
   pub reads : (d : List ℕ) (q : Read) → ReadsTerm f d (r .at) (r .path) q → ReadsTerm f d at p q
   pub judged : (d : List ℕ) (result : ℕ) (c : Checked) → Judged f d (r .at) result (r .slots) (r .path .slots) c → Judged f d at result slots (p .slots) c
 
--- a term that was read and checked; or read and not checked; or a fault of the ownership check, if it reads
+-- a term that reads and has nothing wrong; or one that does not read; or a fault of the ownership check, which is the answer if it reads
 pub record Passed (f d : List ℕ) (at result : ℕ) (slots : List Slot) (p : Path) (r : Checked) : Type 0 where
   pub next : (n : ℕ) → r ≡ Next n → (at < n) × (n ≤ length f) × ReadsTerm f d at p (read′.Next n) × Judged f d at result slots (p .slots) (Next n)
   pub unread : (x q : ℕ) → r ≡ Unread x q → (0 < x) × (q ≤ length f) × ReadsTerm f d at p (read′.Fault x q)

@@ -19,8 +19,8 @@ use Rattle.standing.specs.Stands.{Stands, Each, count, arity}
 use Rattle.standing.specs.Table.{Sorts, Modes, sort-byte}
 use Rattle.checker.specs.declared.ownership.Taken.{Taken}
 use Rattle.checker.specs.declared.reading.Then.{Then}
-use Rattle.checker.specs.declared.ownership.Checked.{Checked}
-use Rattle.checker.specs.declared.ownership.Checked.the-variants.{Next, Fault}
+use Rattle.checker.specs.declared.bodies.Checked.{Checked}
+use Rattle.checker.specs.declared.bodies.Checked.the-variants.{Next, Fault}
 use Rattle.checker.specs.OwnershipBits.{bitsOf}
 use Rattle.checker.specs.Slots.{slotsOf, keptOf}
 use Rattle.checker.specs.Ownership.{takenOf, kindBy, thenOf}
@@ -34,9 +34,7 @@ spanned next (refuse n p) = Fault n p
 pub record Known (file : File) (bytes table : List ℕ) : Type 0 where
   pub wide : length table ≡ 128
   pub constructors : length (file .constructors) ≤ 64
-  pub functions : length (file .functions) ≤ 32
   pub arities : (c : ℕ) → c < length (file .constructors) → arityIn table c ≡ arity file bytes c
-  pub small : (c : ℕ) → arity file bytes c ≤ 4
   pub sorts : (c : ℕ) → c < length (file .constructors) → Sorts bytes (fieldsIn table c) (getD (file .constructors) c [])
   pub parameters : (f : ℕ) → f < length (file .functions) → paramsIn table f ≡ length (function-of file f .parameters)
   pub few : (f : ℕ) → length (function-of file f .parameters) ≤ 8

@@ -1,6 +1,5 @@
 // Bodies, read and checked in one pass. A fault of reading is told from one of the ownership check, since a file that does not read is
 // refused for that, wherever its other faults stand.
-use crate::ownership::Checked;
 use crate::ownership::bind_all;
 use crate::ownership::bound_kind;
 use crate::ownership::branch_slots;
@@ -43,6 +42,13 @@ ghost use lib.ListN.{length, replicate};
 ghost use Rattle.checker.specs.ReadingBytes.{path, knownCount};
 ghost use Rattle.checker.specs.Opening.{Bodied};
 ghost use Rattle.checker.specs.Bodies.{Passable, sumSize, plainSize, Plainly, Passed, PassedAll, PassedBody, Finished};
+
+// Where a term that was read and checked ends; or, of reading or else of the ownership check, the refusal's number and place.
+pub enum Checked {
+    Next(usize),
+    Unread(u32, usize),
+    Fault(u32, usize),
+}
 
 // Where a row of plain nodes ends, and the slots and the path there.
 pub struct Plain {

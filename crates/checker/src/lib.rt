@@ -5,9 +5,9 @@ mod ownership;
 mod reading;
 mod slots;
 
+use crate::bodies::Checked;
 use crate::bodies::check_file;
 use crate::calls::shape_of;
-use crate::ownership::Checked;
 use crate::reading::read_file;
 use meaning::Verdict;
 ghost use mathlib.Core.Path.{_≡_};

@@ -39,13 +39,6 @@ pub struct Taken {
     pub spent: u32,
 }
 
-// Where a term that was read and checked ends; or, of reading or else of the ownership check, the refusal's number and place.
-pub enum Checked {
-    Next(usize),
-    Unread(u32, usize),
-    Fault(u32, usize),
-}
-
 // Nothing wrong: the slots that are spent.
 fn fine(spent: u32) -> Taken
     ensures { λ r. ⌜ r ≡ fine spent ⌝ }

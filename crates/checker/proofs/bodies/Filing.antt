@@ -23,8 +23,8 @@ use Rattle.standing.specs.Table.{con-words, con-end, fun-words, filled, tableOf
 use Rattle.standing.proofs.Declaring.{read-declared}
 use Rattle.checker.specs.declared.reading.Read.the-variants as read′
 use Rattle.checker.specs.declared.reading.Reached.{Reached}
-use Rattle.checker.specs.declared.ownership.Checked.{Checked}
-use Rattle.checker.specs.declared.ownership.Checked.the-variants.{Next, Unread, Fault}
+use Rattle.checker.specs.declared.bodies.Checked.{Checked}
+use Rattle.checker.specs.declared.bodies.Checked.the-variants.{Next, Unread, Fault}
 use Rattle.checker.specs.ReadingBytes.{path, knownCount, expectAt, endAt}
 use Rattle.checker.specs.Opening.{tableWith, HeaderRead, Bodied, ReadsBody, Ends}
 use Rattle.checker.specs.Slots.{slotsOf, unbound}
@@ -37,28 +37,7 @@ use Rattle.checker.proofs.reading.Body.{too-long, body-fails, body-here
 use Rattle.checker.proofs.ownership.Taking.{modes-scaled}
 use Rattle.checker.proofs.ownership.Branching.{laid-tells}
 use Rattle.checker.proofs.ownership.Cycle.{spanned-next, spanned-fault}
-
--- ---- an answer is one of three
-next-unread : {n x q : ℕ} → Next n ≡ Unread x q → ⊥
-next-unread e = let z : _≡_ {A = ℕ} 0 1 = cc in omega arith
-
-next-fault : {n x q : ℕ} → Next n ≡ Fault x q → ⊥
-next-fault e = let z : _≡_ {A = ℕ} 0 1 = cc in omega arith
-
-unread-fault : {x q y p : ℕ} → Unread x q ≡ Fault y p → ⊥
-unread-fault e = let z : _≡_ {A = ℕ} 0 1 = cc in omega arith
-
-unread-number : {x q y p : ℕ} → Unread x q ≡ Unread y p → x ≡ y
-unread-number e = cc
-
-unread-place : {x q y p : ℕ} → Unread x q ≡ Unread y p → q ≡ p
-unread-place e = cc
-
-fault-number : {x q y p : ℕ} → Fault x q ≡ Fault y p → x ≡ y
-fault-number e = cc
-
-fault-place : {x q y p : ℕ} → Fault x q ≡ Fault y p → q ≡ p
-fault-place e = cc
+use Rattle.checker.proofs.bodies.Answers.{unread-is, fault-is, next-unread, next-fault, unread-fault}
 
 -- ---- one body
 module _ (f d : List ℕ) (at j : ℕ) where
@@ -108,9 +87,9 @@ module _ (f d : List ℕ) (at j : ℕ) where
     next = λ n z. absurd (next-unread (sym z));
     unread = λ y p z.
         let w = from-fault refl (expect-off f at 2 x q at h e) in (
-          subst (λ k. 0 < k) (unread-number z) (w .0),
-          subst (λ k. k ≤ length f) (unread-place z) (w .1),
-          inl (x, q, e, sym (λ i. read′.Fault (unread-number z i) (unread-place z i))),
+          subst (λ k. 0 < k) (unread-is z .0) (w .0),
+          subst (λ k. k ≤ length f) (unread-is z .1) (w .1),
+          inl (x, q, e, sym (λ i. read′.Fault (unread-is z .0 i) (unread-is z .1 i))),
         );
     fault = λ y p z. absurd (unread-fault z);
   }
@@ -152,9 +131,7 @@ known-of : {file : File} {f d t : List ℕ} → Declared file f t → length d �
 known-of {file} {f} {d} {t} D w same = record {
   wide = w;
   constructors = D .constructors;
-  functions = D .functions;
   arities = λ c h. sym (ap (λ x. x % 256) (con-word c h)) ∙ D .arities c h;
-  small = D .small;
   sorts = λ c h. subst (λ x. Sorts f (x / 256) (getD (file .constructors) c [])) (con-word c h) (D .sorts c h);
   parameters = λ g h. sym (ap (λ x. x % 256) (fun-word g h)) ∙ D .parameters g h;
   few = D .few;
@@ -259,9 +236,9 @@ pub finished-unread : (f d : List ℕ) (x q : ℕ) → 0 < x → read f ≡ refu
 finished-unread f d x q a b c = record {
   next = λ n z. absurd (next-unread (sym z));
   unread = λ y p z. (
-    subst (λ k. 0 < k) (unread-number z) a,
-    b ∙ (λ i. refuse (unread-number z i) (unread-place z i)),
-    subst (λ k. k ≤ 4096) (unread-place z) c,
+    subst (λ k. 0 < k) (unread-is z .0) a,
+    b ∙ (λ i. refuse (unread-is z .0 i) (unread-is z .1 i)),
+    subst (λ k. k ≤ 4096) (unread-is z .1) c,
   );
   fault = λ y p z. absurd (unread-fault z);
 }
@@ -270,7 +247,7 @@ pub finished-fault : (f d : List ℕ) (x q : ℕ) → ((file : File) → read f 
 finished-fault f d x q k = record {
   next = λ n z. absurd (next-fault (sym z));
   unread = λ y p z. absurd (unread-fault (sym z));
-  fault = λ y p z file e. k file e ∙ (λ i. refuse (fault-number z i) (fault-place z i));
+  fault = λ y p z file e. k file e ∙ (λ i. refuse (fault-is z .0 i) (fault-is z .1 i));
 }
 
 finished-next : (f d : List ℕ) (m : ℕ) (file : File) → read f ≡ ok file → d ≡ tableOf file → check-file file ≡ ok tt → Finished f d (Next m)

@@ -19,12 +19,9 @@ use Rattle.checker.specs.declared.reading.Read.{Read}
 use Rattle.checker.specs.declared.reading.Read.the-variants.{Next, Fault}
 use Rattle.checker.specs.ReadingBytes.{bindsOf, knownArity, knownCount, room, atomField, makeFields, callFields, openFields, sumFields, fieldsAt, followsAt, path, node, limited, afterFields, nodeOf, nodeAt, moreOf, fitting, branchFieldsBy, branchBy, branchAt}
 use Rattle.checker.specs.Ownership.{firstPlace, secondPlace, namedBy, pastOf, thenOf, creditsOf}
-use Rattle.checker.proofs.reading.Steps.{from-next, from-fields}
+use Rattle.checker.proofs.reading.Steps.{next-is, from-next, from-fields}
 
 -- a read that goes on took the way that its tests say
-next-is : {n m : ℕ} → Next n ≡ Next m → n ≡ m
-next-is e = cc
-
 no-next : {A : Type 0} {x q n : ℕ} → Fault x q ≡ Next n → A
 no-next e = let z : _≡_ {A = ℕ} 0 1 = cc in absurd (omega arith)
 

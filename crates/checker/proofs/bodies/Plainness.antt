@@ -16,7 +16,7 @@ use Rattle.meaning.specs.Marks.{findMark, rowAt}
 use Rattle.standing.specs.Bytes.{byteAt, markAt}
 use Rattle.checker.specs.declared.slots.Want.the-variants as want
 use Rattle.checker.specs.declared.ownership.Taken.{Taken}
-use Rattle.checker.specs.declared.ownership.Checked.{Checked}
+use Rattle.checker.specs.declared.bodies.Checked.{Checked}
 use Rattle.checker.specs.declared.reading.Path.{Path}
 use Rattle.checker.specs.declared.reading.Read.{Read}
 use Rattle.checker.specs.declared.reading.Then.the-variants as then

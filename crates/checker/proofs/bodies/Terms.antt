@@ -19,8 +19,8 @@ use Rattle.checker.specs.declared.reading.Then.the-variants as then
 use Rattle.checker.specs.declared.reading.Read.{Read}
 use Rattle.checker.specs.declared.reading.Read.the-variants as read
 use Rattle.checker.specs.declared.ownership.Taken.{Taken}
-use Rattle.checker.specs.declared.ownership.Checked.{Checked}
-use Rattle.checker.specs.declared.ownership.Checked.the-variants.{Next, Unread, Fault}
+use Rattle.checker.specs.declared.bodies.Checked.{Checked}
+use Rattle.checker.specs.declared.bodies.Checked.the-variants.{Next, Unread, Fault}
 use Rattle.checker.specs.declared.bodies.Plain.{Plain}
 use Rattle.checker.specs.OwnershipBits.{bitsOf}
 use Rattle.checker.specs.Slots.{unbound, keptOf}
@@ -37,49 +37,31 @@ use Rattle.checker.proofs.ownership.Cycle.{node-stops, leaf-judged, one
 use Rattle.checker.proofs.ownership.Cycle as cycle
 use Rattle.checker.proofs.ownership.Branching.{Opened, end-judged, branch-twice, branch-judged}
 use Rattle.checker.proofs.ownership.Branching as branching
+use Rattle.checker.proofs.bodies.Answers.{next-is, unread-is, next-unread, next-fault, unread-fault}
 use Rattle.checker.proofs.bodies.Meeting.{NodeRead, BranchRead, branch-read}
-
--- ---- answers of different kinds differ
-next-is : (n k : ℕ) → Next n ≡ Next k → n ≡ k
-next-is n k e = cc
-
-unread-is : (x q y z : ℕ) → Unread x q ≡ Unread y z → (x ≡ y) × (q ≡ z)
-unread-is x q y z e = (cc, cc)
-
-fault-is : (x q y z : ℕ) → Fault x q ≡ Fault y z → (x ≡ y) × (q ≡ z)
-fault-is x q y z e = (cc, cc)
-
-next-unread : (n x q : ℕ) → Next n ≡ Unread x q → ⊥
-next-unread n x q e = let z : _≡_ {A = ℕ} 0 1 = cc in omega arith
-
-next-fault : (n x q : ℕ) → Next n ≡ Fault x q → ⊥
-next-fault n x q e = let z : _≡_ {A = ℕ} 0 1 = cc in omega arith
-
-unread-fault : (x q y z : ℕ) → Unread x q ≡ Fault y z → ⊥
-unread-fault x q y z e = let w : _≡_ {A = ℕ} 0 1 = cc in omega arith
 
 -- ---- one answer at a time
 module _ {f d : List ℕ} {at result : ℕ} {slots : List Slot} {p : Path} where
   passed-next : (n : ℕ) → at < n → n ≤ length f → ReadsTerm f d at p (read.Next n) → Judged f d at result slots (p .slots) (Next n) → Passed f d at result slots p (Next n)
   passed-next n l h r j = record {
     next = λ k e.
-        let q = next-is n k e in
+        let q = next-is e in
         (omega arith, omega arith, subst (λ x. ReadsTerm f d at p (read.Next x)) q r, subst (λ x. Judged f d at result slots (p .slots) (Next x)) q j);
-    unread = λ x q e. absurd (next-unread n x q e);
-    fault = λ x q e. absurd (next-fault n x q e);
+    unread = λ x q e. absurd (next-unread e);
+    fault = λ x q e. absurd (next-fault e);
   }
 
   passed-unread : (x q : ℕ) → 0 < x → q ≤ length f → ReadsTerm f d at p (read.Fault x q) → Passed f d at result slots p (Unread x q)
   passed-unread x q l h r = record {
-    next = λ k e. absurd (next-unread k x q (sym e));
-    unread = λ y z e. let w = unread-is x q y z e in (omega (arith, w .0), omega (arith, w .1), subst (λ v. ReadsTerm f d at p (read.Fault y v)) (w .1) (subst (λ v. ReadsTerm f d at p (read.Fault v q)) (w .0) r));
-    fault = λ y z e. absurd (unread-fault x q y z e);
+    next = λ k e. absurd (next-unread (sym e));
+    unread = λ y z e. let w = unread-is e in (omega (arith, w .0), omega (arith, w .1), subst (λ v. ReadsTerm f d at p (read.Fault y v)) (w .1) (subst (λ v. ReadsTerm f d at p (read.Fault v q)) (w .0) r));
+    fault = λ y z e. absurd (unread-fault e);
   }
 
   passed-fault : (x q : ℕ) → Judged f d at result slots (p .slots) (Fault x q) → Passed f d at result slots p (Fault x q)
   passed-fault x q j = record {
-    next = λ k e. absurd (next-fault k x q (sym e));
-    unread = λ y z e. absurd (unread-fault y z x q (sym e));
+    next = λ k e. absurd (next-fault (sym e));
+    unread = λ y z e. absurd (unread-fault (sym e));
     fault = λ y z e. subst (λ v. Judged f d at result slots (p .slots) v) e j;
   }
 
@@ -88,23 +70,23 @@ module _ {f d : List ℕ} {at result : ℕ} {slots : List Slot} {p : Path} where
         → PassedAll f d at count credit result slots p (Next n)
     all-next n l h r j = record {
       next = λ k e.
-          let q = next-is n k e in
+          let q = next-is e in
           (omega arith, omega arith, subst (λ x. ReadsBranches f d at count credit p (read.Next x)) q r, subst (λ x. JudgedAll f d at count credit 0 result slots (p .slots) (Next x)) q j);
-      unread = λ x q e. absurd (next-unread n x q e);
-      fault = λ x q e. absurd (next-fault n x q e);
+      unread = λ x q e. absurd (next-unread e);
+      fault = λ x q e. absurd (next-fault e);
     }
 
     all-unread : (x q : ℕ) → 0 < x → q ≤ length f → ReadsBranches f d at count credit p (read.Fault x q) → PassedAll f d at count credit result slots p (Unread x q)
     all-unread x q l h r = record {
-      next = λ k e. absurd (next-unread k x q (sym e));
-      unread = λ y z e. let w = unread-is x q y z e in (omega (arith, w .0), omega (arith, w .1), subst (λ v. ReadsBranches f d at count credit p (read.Fault y v)) (w .1) (subst (λ v. ReadsBranches f d at count credit p (read.Fault v q)) (w .0) r));
-      fault = λ y z e. absurd (unread-fault x q y z e);
+      next = λ k e. absurd (next-unread (sym e));
+      unread = λ y z e. let w = unread-is e in (omega (arith, w .0), omega (arith, w .1), subst (λ v. ReadsBranches f d at count credit p (read.Fault y v)) (w .1) (subst (λ v. ReadsBranches f d at count credit p (read.Fault v q)) (w .0) r));
+      fault = λ y z e. absurd (unread-fault e);
     }
 
     all-fault : (x q : ℕ) → JudgedAll f d at count credit 0 result slots (p .slots) (Fault x q) → PassedAll f d at count credit result slots p (Fault x q)
     all-fault x q j = record {
-      next = λ k e. absurd (next-fault k x q (sym e));
-      unread = λ y z e. absurd (unread-fault y z x q (sym e));
+      next = λ k e. absurd (next-fault (sym e));
+      unread = λ y z e. absurd (unread-fault (sym e));
       fault = λ y z e. subst (λ v. JudgedAll f d at count credit 0 result slots (p .slots) v) e j;
     }
 

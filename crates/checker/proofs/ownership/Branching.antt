@@ -21,8 +21,8 @@ use Rattle.standing.specs.Bytes.{byteAt, arityIn, fieldsIn}
 use Rattle.standing.specs.Stands.{Stands, Each, count}
 use Rattle.standing.specs.Stands as stands
 use Rattle.standing.specs.Table.{Sorts, mode-byte}
-use Rattle.checker.specs.declared.ownership.Checked.{Checked}
-use Rattle.checker.specs.declared.ownership.Checked.the-variants.{Next, Fault}
+use Rattle.checker.specs.declared.bodies.Checked.{Checked}
+use Rattle.checker.specs.declared.bodies.Checked.the-variants.{Next, Fault}
 use Rattle.checker.specs.OwnershipBits.{bitsOf}
 use Rattle.checker.specs.Slots.{slotOf, slotsOf, bound-slot, kindAt}
 use Rattle.checker.specs.Ownership.{laidOf, creditsOf, branchOf}

@@ -18,8 +18,8 @@ use Rattle.standing.specs.Stands as stands
 use Rattle.checker.specs.declared.ownership.Taken.{Taken}
 use Rattle.checker.specs.declared.reading.Then.{Then}
 use Rattle.checker.specs.declared.reading.Then.the-variants.{Leaf, One, Two, Many}
-use Rattle.checker.specs.declared.ownership.Checked.{Checked}
-use Rattle.checker.specs.declared.ownership.Checked.the-variants.{Next, Fault}
+use Rattle.checker.specs.declared.bodies.Checked.{Checked}
+use Rattle.checker.specs.declared.bodies.Checked.the-variants.{Next, Fault}
 use Rattle.checker.specs.Slots.{slotsOf, keptOf}
 use Rattle.checker.specs.Ownership.{takenOf, kindBy, thenOf}
 use Rattle.checker.specs.OwnershipReady.{spanned, Ready, Judged, Made, ReadyAll, JudgedAll}

@@ -29,14 +29,14 @@ pub from-le : {f : List ℕ} {a b : ℕ} {r : Read} → b ≤ a → From f a r �
 from-le {b = b} h (on {n = n} p q) = let w : b ≤ n = omega arith in on w q
 from-le h (off x q) = off x q
 
-next-is : (n m : ℕ) → Next n ≡ Next m → n ≡ m
-next-is n m e = cc
+pub next-is : {n m : ℕ} → Next n ≡ Next m → n ≡ m
+next-is e = cc
 
 fault-is : (x p y q : ℕ) → Fault x p ≡ Fault y q → (x ≡ y) × (p ≡ q)
 fault-is x p y q e = (cc, cc)
 
 pub from-next : {f : List ℕ} {a n : ℕ} {r : Read} → r ≡ Next n → From f a r → (a ≤ n) × (n ≤ length f)
-from-next {n = m} e (on {n = n} p q) = let z = next-is n m e in (omega arith, omega arith)
+from-next {n = m} e (on {n = n} p q) = let z = next-is e in (omega arith, omega arith)
 from-next e (off {x = x} {p = p} _ _) = let z : _≡_ {A = ℕ} 0 1 = cc in absurd (omega arith)
 
 pub from-fault : {f : List ℕ} {a x p : ℕ} {r : Read} → r ≡ Fault x p → From f a r → (0 < x) × (p ≤ length f)

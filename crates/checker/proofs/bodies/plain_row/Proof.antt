@@ -8,7 +8,7 @@ use mathlib.Core.Path.{_≡_, ap, _∙_}
 use native.Mathlib.Omega.{arith}
 use lib.ListN.{length, getD, length-set}
 use Rattle.checker.specs.declared.reading.Read.{Read}
-use Rattle.checker.specs.declared.ownership.Checked.{Checked}
+use Rattle.checker.specs.declared.bodies.Checked.{Checked}
 use Rattle.checker.specs.Slots.{unbound}
 use Rattle.checker.specs.Reads.{ReadsTerm}
 use Rattle.checker.specs.OwnershipReady.{Judged}
