@@ -1,4 +1,4 @@
--- What reading, the ownership check and the shape of the calls come to together: `judgedOf` and `verdictOf`. Assumes nothing.
+-- What reading, the ownership check and the calls come to together: `judgedOf` and `verdictOf`. Assumes nothing.
 use Prim.Native.Nat.{ℕ, _<_}
 use mathlib.Core.List.{List}
 use mathlib.Core.Path.{_≡_, refl, sym, ap, _∙_, subst}
@@ -11,7 +11,7 @@ use Rattle.meaning.specs.Syntax.{File}
 use Rattle.meaning.specs.Outcome.{Outcome, ok, refuse}
 use Rattle.meaning.specs.Reading.{read}
 use Rattle.meaning.specs.Ownership.{check-file}
-use Rattle.meaning.specs.Calls.{shape}
+use Rattle.meaning.specs.Calls.{shape, judge}
 use Rattle.meaning.specs.Verdict.{accepted}
 use Rattle.meaning.specs.Verdict as checking
 use Rattle.meaning.specs.Answers.{told, verdictOf}
@@ -26,7 +26,10 @@ use Rattle.checker.specs.declared.bodies.Checked.the-variants.{Next, Unr
 use Rattle.checker.specs.Opening.{Ends}
 use Rattle.checker.specs.declared.reading.Reached.{Reached}
 use Rattle.checker.specs.Bodies.{Finished}
-use Rattle.checker.specs.Judging.{refusal, judged, judgedOf}
+use Rattle.checker.specs.Noting.{wordsOf, squareOf}
+use Rattle.checker.specs.Judging.{refusal, judged, judgedOf, Judging}
+use Rattle.checker.proofs.calls.Filling.{filled-length}
+use Rattle.checker.proofs.calls.Squares.{words-square}
 
 -- a file that was read, with its table
 pub record Whole (f d : List ℕ) (funs : ℕ) : Type 0 where
@@ -51,6 +54,13 @@ judged-is : (f : List ℕ) (o : Outcome File) → accepted f ≡ o → judged o 
 unfolding judgedOf
 judged-is f o e = sym (ap judged e)
 
+-- of a file that is refused no calls are told
+pub refused-judging : {f : List ℕ} {n p : ℕ} → accepted f ≡ refuse n p → (c : List ℕ) {r : Judged} → r ≡ refusal n p → Judging f c r
+refused-judging {f} {n} {p} q c {r} e = record {
+  answer = e ∙ judged-is f (refuse n p) q;
+  words = λ z. let a : r .number ≡ n = ap (λ x. x .number) e in absurd (omega (arith, accepted-numbers f q));
+}
+
 module _ (f d : List ℕ) (r : Reached) (e : Ends f d (r .count) (r .at) (r .number)) where
   pub ends-place : (r .number ≡ 0 → ⊥) → r .at < 4294967296
   unfolding Ends
@@ -60,13 +70,13 @@ module _ (f d : List ℕ) (r : Reached) (e : Ends f d (r .count) (r .at) (r .num
       go (inl h) = absurd (n (h .0))
       go (inr h) = omega (arith, h .2)
 
-  pub ends-refused : (r .number ≡ 0 → ⊥) → refusal (r .number) (r .at) ≡ judgedOf f
+  pub ends-refused : (r .number ≡ 0 → ⊥) → accepted f ≡ refuse (r .number) (r .at)
   unfolding Ends
   ends-refused n = go e
     where
-      go : Ends f d (r .count) (r .at) (r .number) → refusal (r .number) (r .at) ≡ judgedOf f
+      go : Ends f d (r .count) (r .at) (r .number) → accepted f ≡ refuse (r .number) (r .at)
       go (inl h) = absurd (n (h .0))
-      go (inr h) = judged-is f (refuse (r .number) (r .at)) (accepted-unread f (r .number) (r .at) (h .1))
+      go (inr h) = accepted-unread f (r .number) (r .at) (h .1)
 
   pub ends-whole : r .number ≡ 0 → Whole f d (r .count)
   unfolding Ends
@@ -81,17 +91,18 @@ module _ {f d : List ℕ} {funs : ℕ} (w : Whole f d funs) where
   whole-declared = subst (λ t. Declared (w .file) f t) (sym (w .table)) (read-declared f (w .file) (w .reads))
 
 -- what the pass over the bodies says
-module _ (f d : List ℕ) {r : Checked} (F : Finished f d r) where
-  pub next-accepted : {m : ℕ} → r ≡ Next m → record { number = 0; place = 0; table = d } ≡ judgedOf f
-  next-accepted {m} e =
+module _ (f d c : List ℕ) {r : Checked} (F : Finished f d c r) where
+  pub next-judging : {m : ℕ} → r ≡ Next m → Judging f c (record { number = 0; place = 0; table = d })
+  next-judging {m} e =
       let w = F .next m e in
-      ap (λ t. record { number = 0; place = 0; table = t }) (w .2) ∙ judged-is f (ok (w .0)) (accepted-fine f (w .0) (w .1) (w .3))
+      let a = accepted-fine f (w .0) (w .1) (w .3) in
+      record { answer = ap (λ t. record { number = 0; place = 0; table = t }) (w .2) ∙ judged-is f (ok (w .0)) a; words = λ z. (w .0, a, w .4) }
 
   pub unread-place : {n p : ℕ} → r ≡ Unread n p → p < 4294967296
   unread-place {n} {p} e = let w = F .unread n p e in omega (arith, w .2)
 
-  pub unread-refused : {n p : ℕ} → r ≡ Unread n p → refusal n p ≡ judgedOf f
-  unread-refused {n} {p} e = let w = F .unread n p e in judged-is f (refuse n p) (accepted-unread f n p (w .1))
+  pub unread-refused : {n p : ℕ} → r ≡ Unread n p → accepted f ≡ refuse n p
+  unread-refused {n} {p} e = accepted-unread f n p (F .unread n p e .1)
 
   -- a fault of the ownership check, in a file that reads
   module _ {n p : ℕ} (e : r ≡ Fault n p) {t : List ℕ} {funs : ℕ} (w : Whole f t funs) where
@@ -101,8 +112,8 @@ module _ (f d : List ℕ) {r : Checked} (F : Finished f d r) where
         let h = check-file-inside (w .file) f t D (F .fault n p e (w .file) (w .reads)) in
         omega (arith, h, D .size)
 
-    pub fault-refused : refusal n p ≡ judgedOf f
-    fault-refused = judged-is f (refuse n p) (accepted-read f (w .file) n p (w .reads) (F .fault n p e (w .file) (w .reads)))
+    pub fault-refused : accepted f ≡ refuse n p
+    fault-refused = accepted-read f (w .file) n p (w .reads) (F .fault n p e (w .file) (w .reads))
 
 -- the verdict, by what was judged
 told-refused : (f : List ℕ) (n p : ℕ) → accepted f ≡ refuse n p → verdict.Refused n p ≡ verdictOf f
@@ -112,6 +123,18 @@ told-refused f n p e = rw (e, checking.verdict)
 told-accepted : (f : List ℕ) (file : File) → accepted f ≡ ok file → told (ok (shape file)) ≡ verdictOf f
 unfolding verdictOf checking.verdict
 told-accepted f file e = rw (e, checking.verdict)
+
+read-of : (f : List ℕ) (file : File) → accepted f ≡ ok file → read f ≡ ok file
+unfolding accepted
+read-of f file q = go (read f) refl
+  where
+    checked-of : (g : File) (o : Outcome (Unit {0})) → check-file g ≡ o → read f ≡ ok g → read f ≡ ok file
+    checked-of g (ok u) c r = r ∙ sym (accepted-fine f g r c) ∙ q
+    checked-of g (refuse m p) c r = absurd (refused (sym (accepted-read f g m p r c) ∙ q))
+
+    go : (o : Outcome File) → read f ≡ o → read f ≡ ok file
+    go (ok g) r = checked-of g (check-file g) refl r
+    go (refuse m p) r = absurd (refused (sym (accepted-unread f m p r) ∙ q))
 
 module _ (f : List ℕ) {j : Judged} (e : j ≡ judgedOf f) where
   pub judged-refused : (j .number ≡ 0 → ⊥) → verdict.Refused (j .number) (j .place) ≡ verdictOf f
@@ -148,20 +171,20 @@ module _ (f : List ℕ) {j : Judged} (e : j ≡ judgedOf f) where
           let a : j .number ≡ m = ap (λ x. x .number) (e ∙ ap judged q) in
           absurd (omega (arith, accepted-numbers f q))
 
-  read-of : (file : File) → accepted f ≡ ok file → read f ≡ ok file
-  unfolding accepted
-  read-of file q = go (read f) refl
-    where
-      checked-of : (g : File) (o : Outcome (Unit {0})) → check-file g ≡ o → read f ≡ ok g → read f ≡ ok file
-      checked-of g (ok u) c r = r ∙ sym (accepted-fine f g r c) ∙ q
-      checked-of g (refuse m p) c r = absurd (refused (sym (accepted-read f g m p r c) ∙ q))
-
-      go : (o : Outcome File) → read f ≡ o → read f ≡ ok file
-      go (ok g) r = checked-of g (check-file g) refl r
-      go (refuse m p) r = absurd (refused (sym (accepted-unread f m p r) ∙ q))
-
   pub accepts-declared : (a : Accepts) → Declared (a .file) f (j .table)
-  accepts-declared a = subst (λ t. Declared (a .file) f t) (sym (a .table)) (read-declared f (a .file) (read-of (a .file) (a .fine)))
+  accepts-declared a = subst (λ t. Declared (a .file) f t) (sym (a .table)) (read-declared f (a .file) (read-of f (a .file) (a .fine)))
 
-  pub accepts-told : (a : Accepts) → {v : Verdict} → ((tree : File) → Declared tree f (j .table) → v ≡ told (ok (shape tree))) → v ≡ verdictOf f
-  accepts-told a h = h (a .file) (accepts-declared a) ∙ told-accepted f (a .file) (a .fine)
+-- the words of an accepted file, and the verdict by them
+module _ (f c : List ℕ) (w : (file : File) × (accepted f ≡ ok file) × (c ≡ wordsOf file)) where
+  pub words-wide : length c ≡ 32
+  unfolding wordsOf
+  words-wide =
+      let D = read-declared f (w .0) (read-of f (w .0) (w .1)) in
+      ap length (w .2) ∙ filled-length 0 (length (w .0 .bodies)) _ (omega (arith, D .many, D .functions))
+
+  pub words-told : {v : Verdict} → v ≡ told (ok (judge (squareOf c))) → v ≡ verdictOf f
+  unfolding shape
+  words-told e =
+      e
+      ∙ ap (λ s. told (ok (judge s))) (ap squareOf (w .2) ∙ words-square f (w .0) (read-of f (w .0) (w .1)))
+      ∙ told-accepted f (w .0) (w .1)

@@ -1,11 +1,13 @@
 -- The laws behind the module `calls`.
 pub mod Digits
 pub mod Filling
-pub mod Scanning
+pub mod Members
+pub mod Halves
+pub mod Putting
+pub mod Rows
+pub mod Squaring
+pub mod Squares
 pub mod Closing
 pub mod Levels
-pub mod Rows
-pub mod Squares
-pub mod Masks
-pub mod Keeping
 pub mod Visits
+pub mod Masks

@@ -1,19 +1,15 @@
--- Sets of functions as the low 32 digits of a number, what leads on from a set, and levels of it. Assumes nothing.
-use Prim.Native.Nat.{ℕ, zero, suc, _-_, _/_, _%_, _<_}
-use mathlib.Core.List.{List, [], _∷_, _++_}
+-- What leads on from a set of functions, and levels of it. Assumes nothing.
+use Prim.Native.Nat.{ℕ, zero, suc, _-_, _<_}
+use mathlib.Core.List.{List, _++_}
 use mathlib.Core.Bool.{Bool, true, false}
 use mathlib.Core.Path.{_≡_}
 use lib.ListN.{getD, set, replicate}
-use lib.Dec.{eqb, leb}
+use lib.Dec.{leb}
 use Rattle.meaning.specs.declared.Verdict.{Verdict}
 use Rattle.meaning.specs.declared.Verdict.the-variants.{Flat, Stacked}
 use Rattle.meaning.specs.Choice.{pick}
 use Rattle.meaning.specs.Sets.{upto, first, zip, or, except}
-
--- a number's low digits, lowest first
-unfoldable pub bitsOf : ℕ → ℕ → List Bool
-bitsOf zero x = []
-bitsOf (suc d) x = eqb (x % 2) 1 ∷ bitsOf d (x / 2)
+use Rattle.checker.specs.OwnershipBits.{bitsOf}
 
 -- 32 entries, of which the first n are given by a function
 unfoldable pub filled : {A : Type 0} → A → ℕ → (ℕ → A) → List A
@@ -42,9 +38,9 @@ onward zero row s = replicate 32 false
 onward (suc k) row s = pick (getD s k false) (zip or (row k) (onward k row s)) (onward k row s)
 
 -- the functions at the end of walks from function 0 with so many calls that wait
-unfoldable pub level : (tails waits : ℕ → List Bool) → (count : ℕ) → ℕ → List Bool
-level tails waits count zero = closure tails (bitsOf 32 1)
-level tails waits count (suc n) = closure tails (onward count waits (level tails waits count n))
+unfoldable pub level : (tails waits : ℕ → List Bool) → ℕ → List Bool
+level tails waits zero = closure tails (bitsOf 32 1)
+level tails waits (suc n) = closure tails (onward 32 waits (level tails waits n))
 
 abbrev pub Some : List Bool → Type 0
 Some l = (i : ℕ) × (getD l i false ≡ true)
@@ -53,7 +49,7 @@ abbrev pub Empty : List Bool → Type 0
 Empty l = (i : ℕ) → getD l i false ≡ false
 
 -- the levels end, or as many as functions are reached do not end them
-pub data Settles (tails waits : ℕ → List Bool) (count reached : ℕ) : Verdict → Type 0 where
-  ends : (depth : ℕ) → ((n : ℕ) → n < depth → Some (level tails waits count n)) → Empty (level tails waits count depth)
-      → Settles tails waits count reached (Flat depth reached)
-  goes-on : Some (level tails waits count reached) → Settles tails waits count reached (Stacked reached)
+pub data Settles (tails waits : ℕ → List Bool) (reached : ℕ) : Verdict → Type 0 where
+  ends : (depth : ℕ) → ((n : ℕ) → n < depth → Some (level tails waits n)) → Empty (level tails waits depth)
+      → Settles tails waits reached (Flat depth reached)
+  goes-on : Some (level tails waits reached) → Settles tails waits reached (Stacked reached)

@@ -1,9 +1,9 @@
 pub mod ReadingBytes
 pub mod Reads
 pub mod Opening
-pub mod Bits
-pub mod Scan
 pub mod OwnershipBits
+pub mod Bits
+pub mod Noting
 pub mod Slots
 pub mod Ownership
 pub mod OwnershipReady

@@ -1,5 +1,5 @@
 -- What the ownership check asks for, a term or branches of some file that stand at the place, and what it answers: what the check of that
--- term or those branches answers. Assumes nothing.
+-- term or those branches answers, and the calls that are written in them. Assumes nothing.
 use Prim.Native.Nat.{ℕ, zero, suc, _+_, _≤_, _<_}
 use mathlib.Core.Bool.{false}
 use mathlib.Core.List.{List, [], map}
@@ -14,6 +14,7 @@ use Rattle.meaning.specs.Machine.{function-of}
 use Rattle.meaning.specs.Outcome.{Outcome, ok, refuse}
 use Rattle.meaning.specs.Ownership.{check, check-branches, member, bound-by-OP, bound-by-LK}
 use Rattle.meaning.specs.Ownership as tree
+use Rattle.meaning.specs.Calls.{calls, calls-branches}
 use Rattle.standing.specs.Bytes.{byteAt, markAt, arityIn, fieldsIn, paramsIn, modesIn}
 use Rattle.standing.specs.Stands.{Stands, Each, count, arity}
 use Rattle.standing.specs.Table.{Sorts, Modes, sort-byte}
@@ -22,6 +23,7 @@ use Rattle.checker.specs.declared.reading.Then.{Then}
 use Rattle.checker.specs.declared.bodies.Checked.{Checked}
 use Rattle.checker.specs.declared.bodies.Checked.the-variants.{Next, Fault}
 use Rattle.checker.specs.OwnershipBits.{bitsOf}
+use Rattle.checker.specs.Noting.{noteCalls}
 use Rattle.checker.specs.Slots.{slotsOf, keptOf}
 use Rattle.checker.specs.Ownership.{takenOf, kindBy, thenOf}
 
@@ -34,6 +36,7 @@ spanned next (refuse n p) = Fault n p
 pub record Known (file : File) (bytes table : List ℕ) : Type 0 where
   pub wide : length table ≡ 128
   pub constructors : length (file .constructors) ≤ 64
+  pub functions : length (file .functions) ≤ 32
   pub arities : (c : ℕ) → c < length (file .constructors) → arityIn table c ≡ arity file bytes c
   pub sorts : (c : ℕ) → c < length (file .constructors) → Sorts bytes (fieldsIn table c) (getD (file .constructors) c [])
   pub parameters : (f : ℕ) → f < length (file .functions) → paramsIn table f ≡ length (function-of file f .parameters)
@@ -57,6 +60,10 @@ pub record Ready (bytes decl : List ℕ) (at result bound : ℕ) : Type 0 where
 pub record Judged (bytes decl : List ℕ) (at result : ℕ) (slots : List Slot) (bound : ℕ) (r : Checked) : Type 0 where
   pub judged : (g : Ready bytes decl at result bound)
       → r ≡ spanned (g .next) (check (g .file .constructors) (g .file .functions) (g .sort) (g .term) (slotsOf bound slots))
+
+-- the calls of the term noted in a word, from `word` to `word′`
+pub record Noted (bytes decl : List ℕ) (at result bound word word′ : ℕ) : Type 0 where
+  pub noted : (g : Ready bytes decl at result bound) (f : ℕ) → word′ ≡ noteCalls (calls (g .term) f) word
 
 -- a node whose record was taken: what it takes, what it leaves and binds, and what follows
 pub record Made (bytes decl : List ℕ) (at result : ℕ) (slots : List Slot) (bound m : ℕ) (t : Taken) (more : ℕ) (inner : List Slot) (f : Then) : Type 0 where
@@ -97,6 +104,9 @@ pub record JudgedAll (bytes decl : List ℕ) (at left credit seen result : ℕ) 
   pub judged : (g : ReadyAll bytes decl at left credit result bound) (list : List ℕ) → Seen list seen
       → r ≡ spanned (g .next) (check-branches (g .file .constructors) (g .file .functions) (g .sort) (g .branches) (boundBy credit) list (slotsOf bound slots))
 
+pub record NotedAll (bytes decl : List ℕ) (at left credit result bound word word′ : ℕ) : Type 0 where
+  pub noted : (g : ReadyAll bytes decl at left credit result bound) (f : ℕ) → word′ ≡ noteCalls (calls-branches (g .branches) f) word
+
 -- a body of function f behind its BD, which stands at `at`
 pub record ReadyBody (bytes decl : List ℕ) (at f : ℕ) : Type 0 where
   pub file : File
@@ -110,3 +120,6 @@ pub record ReadyBody (bytes decl : List ℕ) (at f : ℕ) : Type 0 where
 pub record JudgedBody (bytes decl : List ℕ) (at f : ℕ) (r : Checked) : Type 0 where
   pub judged : (g : ReadyBody bytes decl at f)
       → r ≡ spanned (g .next) (check (g .file .constructors) (g .file .functions) (function-of (g .file) f .result) (g .term) (tree.bind [] (map tree.kind-of (function-of (g .file) f .parameters))))
+
+pub record NotedBody (bytes decl : List ℕ) (at f word word′ : ℕ) : Type 0 where
+  pub noted : (g : ReadyBody bytes decl at f) → word′ ≡ noteCalls (calls (g .term) f) word

@@ -27,21 +27,26 @@ use crate::reading::read_end;
 use crate::reading::read_header;
 use crate::reading::read_node;
 use crate::slots::fresh_slots;
-use crate::slots::spend;
+use crate::slots::lowest;
+use crate::slots::used;
+use crate::slots::without_lowest;
 use meaning::AR;
 use meaning::BD;
 use meaning::BYTES;
+use meaning::CL;
 use meaning::Kind;
 use meaning::NODES;
 use meaning::NU;
 use meaning::SLOTS;
 use meaning::Slot;
+use meaning::TL;
 ghost use mathlib.Core.Path.{_≡_};
 ghost use Prim.Native.Nat.{_+_, _≤_, _<_};
 ghost use lib.ListN.{length, replicate};
 ghost use Rattle.checker.specs.ReadingBytes.{path, knownCount};
 ghost use Rattle.checker.specs.Opening.{Bodied};
-ghost use Rattle.checker.specs.Bodies.{Passable, sumSize, plainSize, Plainly, Passed, PassedAll, PassedBody, Finished};
+ghost use Rattle.checker.specs.Noting.{noteAt};
+ghost use Rattle.checker.specs.Bodies.{Passable, sumSize, plainSize, plainStands, Plainly, Passed, PassedAll, PassedBody, Finished};
 
 // Where a term that was read and checked ends; or, of reading or else of the ownership check, the refusal's number and place.
 pub enum Checked {
@@ -131,7 +136,34 @@ fn plain_row(file: &[u8], start: usize, slots: [Slot; 32], p: Path) -> Plain
     }
 }
 
-// The term at a place: behind its plain nodes, one node, and the terms that follow it.
+// Does the mark of a plain node stand at a place, with bytes enough behind it?
+fn plain_stands(file: &[u8], at: usize) -> bool
+    requires { ⌜ at ≤ 4096 ⌝ }
+    ensures { λ r. ⌜ r ≡ plainStands (now (file .entry)) at ⌝ }
+{
+    if file.len() < at + 5 {
+        return false;
+    }
+    match mark(file, at) {
+        NU => true,
+        AR => true,
+        _ => false,
+    }
+}
+
+// The calls of a body, as bits, with that of the record at a place: a CL by the number of its function, a TL by 32 more.
+fn note(file: &[u8], at: usize, m: usize, calls: u64) -> u64
+    requires { ⌜ at ≤ 4096 ⌝ }
+    ensures { λ r. ⌜ r ≡ noteAt (now (file .entry)) at m calls ⌝ }
+{
+    match m {
+        CL => seeing(calls, byte(file, at + 2) % 32),
+        TL => seeing(calls, 32 + byte(file, at + 2) % 32),
+        _ => calls,
+    }
+}
+
+// The term at a place: behind its plain nodes, one node, and the terms that follow it; its calls are noted.
 fn check_term(
     file: &[u8],
     decl: &[u32; 128],
@@ -139,17 +171,37 @@ fn check_term(
     result: usize,
     slots: [Slot; 32],
     p: Path,
+    calls: &mut u64,
 ) -> Checked
     requires { ⌜ Passable (now file) (now decl) start p ⌝ }
-    ensures { λ r. ⌜ Passed (now (file .entry)) (now (decl .entry)) start result slots p r ⌝ }
+    ensures { λ r. ⌜ Passed (now (file .entry)) (now (decl .entry)) start result slots p (now (calls .entry)) (now (calls .exit)) r ⌝ }
 {
-    let row = plain_row(file, start, slots, p);
-    let at = row.at;
-    let mut inner = row.slots;
-    let bound = row.path.slots;
-    let n = read_node(file, decl, at, row.path);
+    let mut inner = slots;
+    let mut at = start;
+    let mut bound = p.slots;
+    let mut nodes = p.nodes;
+    if plain_stands(file, start) {
+        let row = plain_row(file, start, slots, p);
+        inner = row.slots;
+        at = row.at;
+        bound = row.path.slots;
+        nodes = row.path.nodes;
+    }
+    let n = read_node(
+        file,
+        decl,
+        at,
+        Path {
+            slots: bound,
+            nodes,
+        },
+    );
     let then = n.then;
-    let path = n.path;
+    let more = n.path.slots;
+    let path = Path {
+        slots: more,
+        nodes: n.path.nodes,
+    };
     match then {
         Then::Fault(number, place) => {
             return Checked::Unread(number, place);
@@ -174,15 +226,24 @@ fn check_term(
     );
     if takes_many(m) {
         t = take_many(file, decl, at, m, result, inner, bound);
+        *calls = note(file, at, m, *calls);
     }
     if t.number != 0 {
         return Checked::Fault(t.number, t.place);
     }
-    if t.spent != 0 {
-        let left = spend(inner, t.spent);
-        inner = left;
+    let mut todo = t.spent;
+    while todo != 0 {
+        let k = lowest(todo);
+        let slot = inner[k];
+        let was = slot.kind;
+        let gone = used(was);
+        inner[k] = Slot {
+            kind: gone,
+            place: slot.place,
+        };
+        todo = without_lowest(todo);
     }
-    if bound < path.slots {
+    if bound < more {
         let kind = bound_kind(file, decl, at, m);
         inner[bound] = Slot {
             kind,
@@ -191,14 +252,14 @@ fn check_term(
     }
     match then {
         Then::Leaf(next) => Checked::Next(next),
-        Then::One(next) => check_term(file, decl, next, result, inner, path),
-        Then::Two(next) => match check_term(file, decl, next, result, inner, path) {
-            Checked::Next(other) => check_term(file, decl, other, result, inner, path),
+        Then::One(next) => check_term(file, decl, next, result, inner, path, calls),
+        Then::Two(next) => match check_term(file, decl, next, result, inner, path, calls) {
+            Checked::Next(other) => check_term(file, decl, other, result, inner, path, calls),
             Checked::Unread(number, place) => Checked::Unread(number, place),
             Checked::Fault(number, place) => Checked::Fault(number, place),
         },
         Then::Many(next, count, credit) => {
-            check_branches(file, decl, next, count, credit, result, inner, path)
+            check_branches(file, decl, next, count, credit, result, inner, path, calls)
         }
         Then::Fault(number, place) => Checked::Unread(number, place),
     }
@@ -214,9 +275,10 @@ fn check_branches(
     result: usize,
     slots: [Slot; 32],
     p: Path,
+    calls: &mut u64,
 ) -> Checked
     requires { ⌜ Passable (now file) (now decl) start p × (credit ≤ 1) ⌝ }
-    ensures { λ r. ⌜ PassedAll (now (file .entry)) (now (decl .entry)) start count credit result slots p r ⌝ }
+    ensures { λ r. ⌜ PassedAll (now (file .entry)) (now (decl .entry)) start count credit result slots p (now (calls .entry)) (now (calls .exit)) r ⌝ }
 {
     let mut at = start;
     let mut left = count;
@@ -236,7 +298,7 @@ fn check_branches(
                     slots: more,
                     nodes: p.nodes,
                 };
-                match check_term(file, decl, at + 3, result, inner, path) {
+                match check_term(file, decl, at + 3, result, inner, path, calls) {
                     Checked::Next(next) => {
                         seen = seeing(seen, c);
                         at = next;
@@ -255,10 +317,10 @@ fn check_branches(
     Checked::Next(at)
 }
 
-// BD and the body of a function, from its parameters.
-fn check_body(file: &[u8], decl: &[u32; 128], at: usize, f: usize) -> Checked
+// BD and the body of a function, from its parameters; its calls are noted.
+fn check_body(file: &[u8], decl: &[u32; 128], at: usize, f: usize, calls: &mut u64) -> Checked
     requires { ⌜ Passable (now file) (now decl) at (path 0 0) × (f < 32) × (knownCount (now decl) f ≤ 8) ⌝ }
-    ensures { λ r. ⌜ PassedBody (now (file .entry)) (now (decl .entry)) at f r ⌝ }
+    ensures { λ r. ⌜ PassedBody (now (file .entry)) (now (decl .entry)) at f (now (calls .entry)) (now (calls .exit)) r ⌝ }
 {
     match expect_mark(file, at, BD) {
         Read::Fault(number, place) => Checked::Unread(number, place),
@@ -274,22 +336,31 @@ fn check_body(file: &[u8], decl: &[u32; 128], at: usize, f: usize) -> Checked
                 result,
                 slots,
                 Path { slots: n, nodes: 0 },
+                calls,
             )
         }
     }
 }
 
-// The bodies of so many functions, each one's place into the table, and the end of the file.
-fn check_bodies(file: &[u8], decl: &mut [u32; 128], start: usize, count: usize) -> Checked
-    requires { ⌜ (length (now file) ≤ 4096) × Bodied (now file) (now decl) count 0 start ⌝ }
-    ensures { λ r. ⌜ Finished (now (file .entry)) (now (decl .exit)) r ⌝ }
+// The bodies of so many functions, each one's place into the table and its calls into a word, and the end of the file.
+fn check_bodies(
+    file: &[u8],
+    decl: &mut [u32; 128],
+    calls: &mut [u64; 32],
+    start: usize,
+    count: usize,
+) -> Checked
+    requires { ⌜ (length (now file) ≤ 4096) × Bodied (now file) (now decl) count 0 start × (now calls ≡ replicate 32 0) ⌝ }
+    ensures { λ r. ⌜ Finished (now (file .entry)) (now (decl .exit)) (now (calls .exit)) r ⌝ }
 {
     let mut f: usize = 0;
     let mut at: usize = start;
     while f < count {
-        match check_body(file, decl, at, f) {
+        let mut called: u64 = 0;
+        match check_body(file, decl, at, f, &mut called) {
             Checked::Next(next) => {
                 decl[96 + f] = (at + 2) as u32;
+                calls[f] = called;
                 f += 1;
                 at = next;
             }
@@ -307,10 +378,10 @@ fn check_bodies(file: &[u8], decl: &mut [u32; 128], start: usize, count: usize) 
     }
 }
 
-// The whole file, with what it declares in the table.
-pub(crate) fn check_file(file: &[u8], decl: &mut [u32; 128]) -> Checked
-    requires { ⌜ now decl ≡ replicate 128 255 ⌝ }
-    ensures { λ r. ⌜ Finished (now (file .entry)) (now (decl .exit)) r ⌝ }
+// The whole file, with what it declares in the table and the calls of each body in a word.
+pub(crate) fn check_file(file: &[u8], decl: &mut [u32; 128], calls: &mut [u64; 32]) -> Checked
+    requires { ⌜ (now decl ≡ replicate 128 255) × (now calls ≡ replicate 32 0) ⌝ }
+    ensures { λ r. ⌜ Finished (now (file .entry)) (now (decl .exit)) (now (calls .exit)) r ⌝ }
 {
     if BYTES < file.len() {
         return Checked::Unread(1, 0);
@@ -319,5 +390,5 @@ pub(crate) fn check_file(file: &[u8], decl: &mut [u32; 128]) -> Checked
     if header.number != 0 {
         return Checked::Unread(header.number, header.at);
     }
-    check_bodies(file, decl, header.at, header.count)
+    check_bodies(file, decl, calls, header.at, header.count)
 }

@@ -178,7 +178,7 @@ pub(crate) fn spends(want: Want) -> bool
 }
 
 // A kind after it was spent.
-fn used(kind: Kind) -> Kind
+pub(crate) fn used(kind: Kind) -> Kind
     ensures { λ r. ⌜ r ≡ usedKind kind ⌝ }
 {
     match kind {
@@ -268,7 +268,7 @@ pub(crate) fn with(slots: u32, i: usize) -> u32
 }
 
 // The first slot of a set.
-fn lowest(slots: u32) -> usize
+pub(crate) fn lowest(slots: u32) -> usize
     requires { ⌜ 0 < slots ⌝ }
     ensures { λ r. ⌜ (r ≡ first (bitsOf 32 slots)) × (r < 32) ⌝ }
 {
@@ -276,7 +276,7 @@ fn lowest(slots: u32) -> usize
 }
 
 // The set without its first slot.
-fn without_lowest(slots: u32) -> u32
+pub(crate) fn without_lowest(slots: u32) -> u32
     requires { ⌜ 0 < slots ⌝ }
     ensures { λ r. ⌜ (bitsOf 32 r ≡ set (bitsOf 32 slots) (first (bitsOf 32 slots)) false) × (r < slots) ⌝ }
 {
@@ -299,26 +299,6 @@ pub(crate) fn left_over(slots: [Slot; 32], bound: usize, spent: u32) -> bool
         i += 1;
     }
     false
-}
-
-// The slots with those of the set spent.
-pub(crate) fn spend(slots: [Slot; 32], spent: u32) -> [Slot; 32]
-    ensures { λ r. ⌜ r ≡ spentBy (bitsOf 32 spent) slots ⌝ }
-{
-    let mut out = slots;
-    let mut todo = spent;
-    while todo != 0 {
-        let i = lowest(todo);
-        let slot = out[i];
-        let was = slot.kind;
-        let gone = used(was);
-        out[i] = Slot {
-            kind: gone,
-            place: slot.place,
-        };
-        todo = without_lowest(todo);
-    }
-    out
 }
 
 // Slots of which none is bound.

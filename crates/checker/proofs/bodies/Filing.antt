@@ -1,11 +1,11 @@
--- A function's body that is read and checked in one, the bodies of a file in order, and the whole file. Assumes nothing.
+-- A function's body that is read, checked and whose calls are noted in one, the bodies of a file in order, and the whole file. Assumes nothing.
 use Prim.Native.Nat.{ℕ, suc, _+_, _/_, _%_, _≤_, _<_}
 use mathlib.Core.Path.{_≡_, refl, sym, ap, _∙_, subst}
 use mathlib.Core.List.{List, [], _++_, map, append-assoc}
 use mathlib.Core.Logic.{inl, inr, ⊎-elim}
 use native.Mathlib.Omega.{arith}
 use native.Mathlib.Numerals.{add-one}
-use lib.ListN.{length, drop, getD, replicate, length-replicate, length-append, drop-of-length-le, List·getD-append}
+use lib.ListN.{length, drop, getD, set, replicate, length-replicate, length-append, drop-of-length-le, List·getD-append}
 use lib.Seq.{drop-cons}
 use borrow.Author.Tests.{lt-ltb}
 use Rattle.meaning.specs.declared.Slot.{Slot}
@@ -17,6 +17,7 @@ use Rattle.meaning.specs.Outcome.{Outcome, ok, refuse, then}
 use Rattle.meaning.specs.Reading.{read}
 use Rattle.meaning.specs.Ownership.{check, check-bodies, check-file, no-function}
 use Rattle.meaning.specs.Ownership as tree
+use Rattle.meaning.specs.Calls.{calls}
 use Rattle.standing.specs.Bytes.{byteAt, paramsIn, modesIn}
 use Rattle.standing.specs.Stands.{Stands}
 use Rattle.standing.specs.Table.{con-words, con-end, fun-words, filled, tableOf, sort-byte, Sorts, Modes, Declared}
@@ -27,9 +28,11 @@ use Rattle.checker.specs.declared.bodies.Checked.{Checked}
 use Rattle.checker.specs.declared.bodies.Checked.the-variants.{Next, Unread, Fault}
 use Rattle.checker.specs.ReadingBytes.{path, knownCount, expectAt, endAt}
 use Rattle.checker.specs.Opening.{tableWith, HeaderRead, Bodied, ReadsBody, Ends}
+use Rattle.checker.specs.Bits as bits
+use Rattle.checker.specs.Noting.{noteCalls, wordsOf}
 use Rattle.checker.specs.Slots.{slotsOf, unbound}
 use Rattle.checker.specs.Ownership.{resultIn, laidOf}
-use Rattle.checker.specs.OwnershipReady.{spanned, Known, Ready, Judged, ReadyBody, JudgedBody}
+use Rattle.checker.specs.OwnershipReady.{spanned, Known, Ready, Judged, Noted, ReadyBody, JudgedBody, NotedBody}
 use Rattle.checker.specs.Bodies.{Passable, Passed, PassedBody, Finished}
 use Rattle.checker.proofs.reading.Tabled.{fill-wide, con-count, fun-count}
 use Rattle.checker.proofs.reading.Steps.{from-fault, expect-next}
@@ -37,6 +40,7 @@ use Rattle.checker.proofs.reading.Body.{too-long, body-fails, body-here
 use Rattle.checker.proofs.ownership.Taking.{modes-scaled}
 use Rattle.checker.proofs.ownership.Branching.{laid-tells}
 use Rattle.checker.proofs.ownership.Cycle.{spanned-next, spanned-fault}
+use Rattle.checker.proofs.calls.Filling.{fill-start, fill-in}
 use Rattle.checker.proofs.bodies.Answers.{unread-is, fault-is, next-unread, next-fault, unread-fault}
 
 -- ---- one body
@@ -80,8 +84,12 @@ module _ (f d : List ℕ) (at j : ℕ) where
         ∙ ap (λ s. spanned (g .next) (check (g .file .constructors) (g .file .functions) (function-of (g .file) j .result) (g .term) s)) (start-slots place g);
   }
 
+  body-noted : {w w′ : ℕ} → Noted f d (at + 2) (resultIn f d j) (paramsIn d j) w w′ → NotedBody f d at j w w′
+  unfolding body-ready
+  body-noted N = record { noted = λ g. N .noted (body-ready g) j }
+
   -- no BD stands here
-  pub body-unread : (x q : ℕ) → at ≤ length f → expectAt f at 2 ≡ read′.Fault x q → PassedBody f d at j (Unread x q)
+  pub body-unread : {w w′ : ℕ} (x q : ℕ) → at ≤ length f → expectAt f at 2 ≡ read′.Fault x q → PassedBody f d at j w w′ (Unread x q)
   unfolding ReadsBody
   body-unread x q h e = record {
     next = λ n z. absurd (next-unread (sym z));
@@ -99,17 +107,17 @@ module _ (f d : List ℕ) (at j : ℕ) where
     unfolding knownCount pick
     known-is = rw (lt-ltb j 32 low)
 
-    body-passed : (place : ℕ) (r : Checked) → expectAt f at 2 ≡ read′.Next (at + 2)
-        → Passed f d (at + 2) (resultIn f d j) (laidOf f 1 place (paramsIn d j) (modesIn d j) 0 (replicate 32 unbound)) (path (paramsIn d j) 0) r
-        → PassedBody f d at j r
+    body-passed : {w w′ : ℕ} (place : ℕ) (r : Checked) → expectAt f at 2 ≡ read′.Next (at + 2)
+        → Passed f d (at + 2) (resultIn f d j) (laidOf f 1 place (paramsIn d j) (modesIn d j) 0 (replicate 32 unbound)) (path (paramsIn d j) 0) w w′ r
+        → PassedBody f d at j w w′ r
     unfolding ReadsBody
     body-passed place r e P = record {
       next = λ n z.
-          let w = P .next n z in
-          (omega (arith, w .0), w .1, inr (e, said f d (read′.Next n) refl (sym known-is) (w .2)), body-judged place (w .3));
+          let x = P .next n z in
+          (omega (arith, x .0), x .1, inr (e, said f d (read′.Next n) refl (sym known-is) (x .2)), body-judged place (x .3), body-noted (x .4));
       unread = λ x q z.
-          let w = P .unread x q z in
-          (w .0, w .1, inr (e, said f d (read′.Fault x q) refl (sym known-is) (w .2)));
+          let y = P .unread x q z in
+          (y .0, y .1, inr (e, said f d (read′.Fault x q) refl (sym known-is) (y .2)));
       fault = λ x q z. body-judged place (P .fault x q z);
     }
 
@@ -120,8 +128,8 @@ module _ (f d : List ℕ) (at j : ℕ) where
           let x = expect-next f at 2 start es in
           record { small = h; wide = w; inside = x .1; slots = omega (arith, en, known-is); nodes = omega arith }
 
-      pub made-passed : (place m res : ℕ) (fresh slots : List Slot) (r : Checked) → m ≡ modesIn d j → res ≡ resultIn f d j → fresh ≡ replicate 32 unbound
-          → slots ≡ laidOf f 1 place n m 0 fresh → Passed f d start res slots (path n 0) r → PassedBody f d at j r
+      pub made-passed : {w w′ : ℕ} (place m res : ℕ) (fresh slots : List Slot) (r : Checked) → m ≡ modesIn d j → res ≡ resultIn f d j → fresh ≡ replicate 32 unbound
+          → slots ≡ laidOf f 1 place n m 0 fresh → Passed f d start res slots (path n 0) w w′ r → PassedBody f d at j w w′ r
       made-passed place m res fresh slots r em er ef el P =
           let x = expect-next f at 2 start es in
           body-passed place r (es ∙ ap read′.Next (x .0)) (rw (el, ef, em, en, er, x .0) at P)
@@ -131,6 +139,7 @@ known-of : {file : File} {f d t : List ℕ} → Declared file f t → length d �
 known-of {file} {f} {d} {t} D w same = record {
   wide = w;
   constructors = D .constructors;
+  functions = D .functions;
   arities = λ c h. sym (ap (λ x. x % 256) (con-word c h)) ∙ D .arities c h;
   sorts = λ c h. subst (λ x. Sorts f (x / 256) (getD (file .constructors) c [])) (con-word c h) (D .sorts c h);
   parameters = λ g h. sym (ap (λ x. x % 256) (fun-word g h)) ∙ D .parameters g h;
@@ -166,13 +175,18 @@ same-words cs fs ps qs h k i l =
     ∙ ap (λ x. getD x i 0) (append-assoc first second (filled 32 qs))
 
 -- ---- the bodies of a file in order
--- what is left to check once so many bodies are found fine
-pub record Left (f : List ℕ) (j : ℕ) : Type 0 where
-  pub left : (file : File) → read f ≡ ok file → check-file file ≡ check-bodies (file .constructors) (file .functions) (drop j (file .functions)) (drop j (file .bodies))
+-- the calls of a function's body in a word
+abbrev word-of : File → ℕ → ℕ
+word-of file i = noteCalls (calls (body-of file i) i) 0
 
-pub all-left : (f : List ℕ) → Left f 0
+-- what is left to check once so many bodies are found fine, and the words of their calls
+pub record Left (f c : List ℕ) (j : ℕ) : Type 0 where
+  pub left : (file : File) → read f ≡ ok file → check-file file ≡ check-bodies (file .constructors) (file .functions) (drop j (file .functions)) (drop j (file .bodies))
+  pub words : (file : File) → read f ≡ ok file → c ≡ bits.filled 0 j (word-of file)
+
+pub all-left : (f c : List ℕ) → c ≡ replicate 32 0 → Left f c 0
 unfolding check-file
-all-left f = record { left = λ file e. refl }
+all-left f c z = record { left = λ file e. refl; words = λ file e. z ∙ fill-start 0 (word-of file) }
 
 module _ (f d : List ℕ) (count j at : ℕ) (C : Bodied f d count j at) (h : j < count) where
   in-file : (file : File) → read f ≡ ok file → j < length (file .functions)
@@ -203,7 +217,7 @@ module _ (f d : List ℕ) (count j at : ℕ) (C : Bodied f d count j at) (h : j 
   this-check file =
       check (file .constructors) (file .functions) (function-of file j .result) (body-of file j) (tree.bind [] (map tree.kind-of (function-of file j .parameters)))
 
-  next-body : Left f j → (file : File) → read f ≡ ok file
+  next-body : {c : List ℕ} → Left f c j → (file : File) → read f ≡ ok file
       → check-file file ≡ then (this-check file) (λ _. check-bodies (file .constructors) (file .functions) (drop (suc j) (file .functions)) (drop (suc j) (file .bodies)))
   unfolding check-bodies this-check
   next-body l file e =
@@ -211,80 +225,89 @@ module _ (f d : List ℕ) (count j at : ℕ) (C : Bodied f d count j at) (h : j 
       let b : j < length (file .bodies) = omega (arith, a, read-declared f file e .many) in
       l .left file e ∙ rw (drop-cons (file .functions) j no-function a, drop-cons (file .bodies) j no-body b)
 
-  pub fine-left : {n : ℕ} → Left f j → JudgedBody f d at j (Next n) → Left f (j + 1)
+  pub fine-left : {c : List ℕ} {n w : ℕ} → Left f c j → JudgedBody f d at j (Next n) → NotedBody f d at j 0 w → Left f (set c j w) (j + 1)
   unfolding here-ready this-check
-  fine-left {n} l J = record {
+  fine-left {c} {n} {w} l J N = record {
     left = λ file e.
         let y = spanned-next (read-declared f file e .ends j) n (this-check file) (J .judged (here-ready file e)) in
         next-body l file e ∙ rw (y .0, add-one j);
+    words = λ file e.
+        ap (λ x. set x j w) (l .words file e)
+        ∙ fill-in 0 j (word-of file) w (omega (arith, in-file file e, read-declared f file e .functions)) (sym (N .noted (here-ready file e)));
   }
 
-  pub body-stops : {x q : ℕ} → Left f j → JudgedBody f d at j (Fault x q) → (file : File) → read f ≡ ok file → check-file file ≡ refuse x q
+  pub body-stops : {c : List ℕ} {x q : ℕ} → Left f c j → JudgedBody f d at j (Fault x q) → (file : File) → read f ≡ ok file → check-file file ≡ refuse x q
   unfolding here-ready this-check
-  body-stops {x} {q} l J file e =
+  body-stops {c} {x} {q} l J file e =
       let y = spanned-fault (read-declared f file e .ends j) x q (this-check file) (J .judged (here-ready file e)) in
       next-body l file e ∙ rw y
 
-none-left : (f : List ℕ) (j : ℕ) → Left f j → (file : File) → read f ≡ ok file → length (file .functions) ≤ j → check-file file ≡ ok tt
+none-left : {c : List ℕ} (f : List ℕ) (j : ℕ) → Left f c j → (file : File) → read f ≡ ok file → length (file .functions) ≤ j → check-file file ≡ ok tt
 unfolding check-bodies
 none-left f j l file e h =
     let b : length (file .bodies) ≤ j = omega (arith, h, read-declared f file e .many) in
     l .left file e ∙ rw (drop-of-length-le (file .functions) h, drop-of-length-le (file .bodies) b)
 
+all-noted : {c : List ℕ} (f : List ℕ) (j : ℕ) → Left f c j → (file : File) → read f ≡ ok file → length (file .functions) ≡ j → c ≡ wordsOf file
+unfolding wordsOf
+all-noted f j l file e h =
+    let b : j ≡ length (file .bodies) = omega (arith, h, read-declared f file e .many) in
+    l .words file e ∙ ap (λ n. bits.filled 0 n (word-of file)) b
+
 -- ---- the whole file
-pub finished-unread : (f d : List ℕ) (x q : ℕ) → 0 < x → read f ≡ refuse x q → q ≤ 4096 → Finished f d (Unread x q)
-finished-unread f d x q a b c = record {
+pub finished-unread : (f d c : List ℕ) (x q : ℕ) → 0 < x → read f ≡ refuse x q → q ≤ 4096 → Finished f d c (Unread x q)
+finished-unread f d c x q a b h = record {
   next = λ n z. absurd (next-unread (sym z));
   unread = λ y p z. (
     subst (λ k. 0 < k) (unread-is z .0) a,
     b ∙ (λ i. refuse (unread-is z .0 i) (unread-is z .1 i)),
-    subst (λ k. k ≤ 4096) (unread-is z .1) c,
+    subst (λ k. k ≤ 4096) (unread-is z .1) h,
   );
   fault = λ y p z. absurd (unread-fault z);
 }
 
-pub finished-fault : (f d : List ℕ) (x q : ℕ) → ((file : File) → read f ≡ ok file → check-file file ≡ refuse x q) → Finished f d (Fault x q)
-finished-fault f d x q k = record {
+pub finished-fault : (f d c : List ℕ) (x q : ℕ) → ((file : File) → read f ≡ ok file → check-file file ≡ refuse x q) → Finished f d c (Fault x q)
+finished-fault f d c x q k = record {
   next = λ n z. absurd (next-fault (sym z));
   unread = λ y p z. absurd (unread-fault (sym z));
   fault = λ y p z file e. k file e ∙ (λ i. refuse (fault-is z .0 i) (fault-is z .1 i));
 }
 
-finished-next : (f d : List ℕ) (m : ℕ) (file : File) → read f ≡ ok file → d ≡ tableOf file → check-file file ≡ ok tt → Finished f d (Next m)
-finished-next f d m file a b c = record {
-  next = λ n z. (file, a, b, c);
+finished-next : (f d c : List ℕ) (m : ℕ) (file : File) → read f ≡ ok file → d ≡ tableOf file → check-file file ≡ ok tt → c ≡ wordsOf file → Finished f d c (Next m)
+finished-next f d c m file a b h k = record {
+  next = λ n z. (file, a, b, h, k);
   unread = λ x q z. absurd (next-unread z);
   fault = λ x q z. absurd (next-fault z);
 }
 
-pub finished-long : (f d : List ℕ) → 4096 < length f → Finished f d (Unread 1 0)
-finished-long f d h = finished-unread f d 1 0 (omega arith) (too-long f h) (omega arith)
+pub finished-long : (f d c : List ℕ) → 4096 < length f → Finished f d c (Unread 1 0)
+finished-long f d c h = finished-unread f d c 1 0 (omega arith) (too-long f h) (omega arith)
 
-pub header-stops : (f d d′ : List ℕ) (r : Reached) → HeaderRead f d r → (r .number ≡ 0 → ⊥) → Finished f d′ (Unread (r .number) (r .at))
+pub header-stops : (f d d′ c : List ℕ) (r : Reached) → HeaderRead f d r → (r .number ≡ 0 → ⊥) → Finished f d′ c (Unread (r .number) (r .at))
 unfolding HeaderRead
-header-stops f d d′ r H n = ⊎-elim (λ x. absurd (n (x .0))) (λ x. finished-unread f d′ (r .number) (r .at) (x .0) (x .1) (x .2)) H
+header-stops f d d′ c r H n = ⊎-elim (λ x. absurd (n (x .0))) (λ x. finished-unread f d′ c (r .number) (r .at) (x .0) (x .1) (x .2)) H
 
 -- a body does not read
-pub body-refused : (f d : List ℕ) (count j at : ℕ) → length f ≤ 4096 → (C : Bodied f d count j at) → j < count → (d′ : List ℕ) {r : Checked} (x q : ℕ) → r ≡ Unread x q
-    → PassedBody f d at j r → Finished f d′ (Unread x q)
-body-refused f d count j at s C h d′ x q e P =
+pub body-refused : (f d : List ℕ) (count j at : ℕ) → length f ≤ 4096 → (C : Bodied f d count j at) → j < count → (d′ c : List ℕ) {r : Checked} {u u′ : ℕ} (x q : ℕ) → r ≡ Unread x q
+    → PassedBody f d at j u u′ r → Finished f d′ c (Unread x q)
+body-refused f d count j at s C h d′ c x q e P =
     let w = P .unread x q e in
-    finished-unread f d′ x q (w .0) (body-fails f d count j at C h x q (w .2)) (omega (arith, w .1, s))
+    finished-unread f d′ c x q (w .0) (body-fails f d count j at C h x q (w .2)) (omega (arith, w .1, s))
 
 -- the end of the file
-pub end-refused : (f d : List ℕ) (count at : ℕ) → length f ≤ 4096 → Bodied f d count count at → (x q : ℕ) → endAt f at ≡ read′.Fault x q → Finished f d (Unread x q)
+pub end-refused : (f d c : List ℕ) (count at : ℕ) → length f ≤ 4096 → Bodied f d count count at → (x q : ℕ) → endAt f at ≡ read′.Fault x q → Finished f d c (Unread x q)
 unfolding Ends
-end-refused f d count at s C x q e =
+end-refused f d c count at s C x q e =
     let z = from-fault e (from-end f at (C .inside)) in
-    ⊎-elim (λ w. absurd (omega (arith, w .0, z .0))) (λ w. finished-unread f d x q (w .0) (w .1) (w .2)) (end-fails f d count at s C x q e)
+    ⊎-elim (λ w. absurd (omega (arith, w .0, z .0))) (λ w. finished-unread f d c x q (w .0) (w .1) (w .2)) (end-fails f d count at s C x q e)
 
-pub end-finished : (f d : List ℕ) (count at : ℕ) → length f ≤ 4096 → Bodied f d count count at → Left f count → (n : ℕ) → endAt f at ≡ read′.Next n → Finished f d (Next n)
+pub end-finished : (f d c : List ℕ) (count at : ℕ) → length f ≤ 4096 → Bodied f d count count at → Left f c count → (n : ℕ) → endAt f at ≡ read′.Next n → Finished f d c (Next n)
 unfolding Ends
-end-finished f d count at s C l n e =
+end-finished f d c count at s C l n e =
     ⊎-elim
-    (λ w. finished-next f d n (w .1) (w .2) (w .3) (none-left f count l (w .1) (w .2) (omega (arith, w .4))))
+    (λ w. finished-next f d c n (w .1) (w .2) (w .3) (none-left f count l (w .1) (w .2) (omega (arith, w .4))) (all-noted f count l (w .1) (w .2) (w .4)))
     (λ w. absurd (omega (arith, w .0)))
     (end-reads f d count at s C n e)
 
-pub all-checked : {f : List ℕ} {count j : ℕ} → j ≤ count → count ≤ j → Left f j → Left f count
-all-checked {f} {count} {j} h l L = let e : j ≡ count = omega arith in subst (λ n. Left f n) e L
+pub all-checked : {f c : List ℕ} {count j : ℕ} → j ≤ count → count ≤ j → Left f c j → Left f c count
+all-checked {f} {c} {count} {j} h l L = let e : j ≡ count = omega arith in subst (λ n. Left f c n) e L

@@ -1,5 +1,5 @@
--- Plain nodes: what their size says, that a term reads from behind one as from its place, and that the ownership check goes on behind it with
--- one slot more. Assumes nothing.
+-- Plain nodes: what their size says, that a term reads from behind one as from its place, that the ownership check goes on behind it with one
+-- slot more, and that it calls nothing. Assumes nothing.
 use Prim.Native.Nat.{ℕ, _+_, _%_, _≤_, _<_}
 use mathlib.Core.Path.{_≡_, refl, sym, ap, _∙_}
 use mathlib.Core.List.{List}
@@ -23,14 +23,15 @@ use Rattle.checker.specs.declared.reading.Then.the-variants as then
 use Rattle.checker.specs.OwnershipBits.{bitsOf}
 use Rattle.checker.specs.Slots.{nowKind, testOf, keptOf, unbound, bound-slot}
 use Rattle.checker.specs.Ownership.{fine, fault, onFine, takeKind, takenOf, takesMany, firstPlace, secondPlace, namedOf, twoOf, namesOf, kindBy, namedBy, pastOf, thenOf}
-use Rattle.checker.specs.OwnershipReady.{Judged, Made}
+use Rattle.checker.specs.Noting.{noteAt}
+use Rattle.checker.specs.OwnershipReady.{Judged, Noted, Made}
 use Rattle.checker.specs.ReadingBytes.{bindsOf, room, sumFields, fieldsAt, followsAt, path, node, limited, afterFields, nodeOf, nodeAt}
 use Rattle.checker.specs.Reads.{ReadsTerm}
 use Rattle.checker.specs.Bodies.{sumSize, plainSize}
 use Rattle.checker.proofs.reading.Steps.{one-reads}
 use Rattle.checker.proofs.ownership.Naming.{names-taken}
 use Rattle.checker.proofs.ownership.Turns.{kept-none, kept-bound}
-use Rattle.checker.proofs.ownership.Cycle.{one-judged}
+use Rattle.checker.proofs.ownership.Cycle.{one-judged, one-noted}
 
 -- ---- what a size says, by the mark
 pub data Sized (f : List ℕ) (at : ℕ) (p : Path) (a b : Kind) : ℕ → Type 0 where
@@ -166,3 +167,8 @@ module _ (f : List ℕ) (at : ℕ) (p : Path) (a b : Kind) where
         → Judged f d (at + size) result (set slots (p .slots) (bound-slot kind.Number at)) (p .slots + 1) c → Judged f d at result slots (p .slots) c
     plain-judged (number hs hk em) c j = one-judged (number-made em) refl j
     plain-judged (sum hs hk em eo et) c j = one-judged (sum-made em hs et) refl j
+
+    pub plain-noted : {size : ℕ} → Sized f at p a b size → (w w′ : ℕ) → Noted f d (at + size) result (p .slots + 1) w w′ → Noted f d at result (p .slots) w w′
+    unfolding noteAt pick
+    plain-noted (number hs hk em) w w′ h = one-noted (number-made em) refl refl h
+    plain-noted (sum hs hk em eo et) w w′ h = one-noted (sum-made em hs et) refl refl h

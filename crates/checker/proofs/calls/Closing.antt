@@ -50,7 +50,7 @@ never-due false false true p q = refl
 never-due false true false p q = absurd (clash q refl)
 never-due false false false p q = absurd (clash q refl)
 
-in-length : (l : List Bool) (i : ℕ) → getD l i false ≡ true → i < length l
+pub in-length : (l : List Bool) (i : ℕ) → getD l i false ≡ true → i < length l
 in-length l i e = go (decLt i (length l))
   where
     go : Dec (i < length l) → i < length l
@@ -151,13 +151,6 @@ module _ (row : ℕ → List Bool) (long : (f : ℕ) → length (row f) ≡ 32) 
         go : Dec (f ≡ i) → getD (set todo i false) f false ≡ false → getD seen f false ≡ true → (f ≡ i) ⊎ ((f ≡ i → ⊥) × (getD seen f false ≡ true) × (getD todo f false ≡ false))
         go (yes q) u s = inl q
         go (no q) u s = inr (q, s, sym (getD-set-other todo i f false false q) ∙ u)
-
-    pub unseen-now : (f : ℕ) → getD seen′ f false ≡ false → (f ≡ i → ⊥) × (getD seen f false ≡ false)
-    unseen-now f e = go (decided (getD seen f false))
-      where
-        go : (getD seen f false ≡ true) ⊎ (getD seen f false ≡ false) → (f ≡ i → ⊥) × (getD seen f false ≡ false)
-        go (inl s) = absurd (clash (keeps f s) e)
-        go (inr s) = (λ q. clash (ap (λ x. getD seen x false) q ∙ g .within i t) s, s)
 
     closed-now : (f : ℕ) → getD seen′ f false ≡ true → getD todo′ f false ≡ false → (h : ℕ) → getD (row f) h false ≡ true → getD seen′ h false ≡ true
     closed-now f e n h c = go (settled-now f e n)

@@ -13,7 +13,8 @@ use lib.Bits.{bitOr, bitAnd, bitXor, or-step, and-step, xor-step, or-zero-r, and
 use lib.Bits as bits
 use lib.Count.{trailingZeros, ones, ones-step, ones-ones}
 use Rattle.theory.proofs.Bools.{first-in}
-use Rattle.checker.specs.Bits.{bitsOf, Some, Empty}
+use Rattle.checker.specs.OwnershipBits.{bitsOf}
+use Rattle.checker.specs.Bits.{Some, Empty}
 use Rattle.meaning.specs.Sets.{first, how-many, zip, or, differ}
 
 -- a digit is 0 or 1

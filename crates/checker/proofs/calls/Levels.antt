@@ -17,10 +17,11 @@ use Rattle.meaning.specs.Calls.{Square, entry, Walk, stay, tail, wait, Flat, Is
 use Rattle.theory.proofs.Walks.{Narrow, join, then-tail, then-wait}
 use Rattle.theory.proofs.Reach.{clash}
 use Rattle.theory.proofs.Shapes.{Judged, as-flat, as-stacked, judged, depth-only, reached-only, no-deeper}
-use Rattle.checker.specs.Bits.{bitsOf, onward, level, Some, Empty, Settles, ends, goes-on}
-use Rattle.checker.specs.Scan.{goes, Within, Tells}
+use Rattle.checker.specs.OwnershipBits.{bitsOf}
+use Rattle.checker.specs.Bits.{onward, level, Some, Empty, Settles, ends, goes-on}
+use Rattle.checker.specs.Noting.{goes, Tells}
 use Rattle.checker.proofs.calls.Digits.{bits-length}
-use Rattle.checker.proofs.calls.Closing.{Closed, closure-closed, onward-length, onward-from, onward-to}
+use Rattle.checker.proofs.calls.Closing.{in-length, Closed, closure-closed, onward-length, onward-from, onward-to}
 
 goes-tail : (h : How) → goes false h ≡ true → h ≡ Tail
 goes-tail Never e = absurd (clash e refl)
@@ -58,13 +59,13 @@ pub one-in : getD (bitsOf 32 1) 0 false ≡ true
 unfolding bitsOf
 one-in = refl
 
-module _ (sq : Square) (count : ℕ) (within : Within count sq) (tails waits : ℕ → List Bool) (tells : Tells sq tails waits) where
+module _ (sq : Square) (narrow : Narrow sq) (tails waits : ℕ → List Bool) (tells : Tells sq tails waits) where
   abbrev L : ℕ → List Bool
-  L n = level tails waits count n
+  L n = level tails waits n
 
   abbrev starts : ℕ → List Bool
   starts zero = bitsOf 32 1
-  starts (suc n) = onward count waits (L n)
+  starts (suc n) = onward 32 waits (L n)
 
   levels : (n : ℕ) → Closed tails (λ f. Walk sq 0 f n) (starts n) (L n)
   unfolding level
@@ -73,24 +74,20 @@ module _ (sq : Square) (count : ℕ) (within : Within count sq) (tails waits : �
       (bitsOf 32 1) (bits-length 32 1) (λ f e. subst (λ g. Walk sq 0 g 0) (sym (one f e)) stay)
   levels (suc n) =
       closure-closed tails (tells .tail-size) (λ f. Walk sq 0 f (suc n)) (λ f g w e. then-tail w (goes-tail (entry sq f g) (sym (tells .tail-at f g (suc n, w)) ∙ e)))
-      (onward count waits (L n)) (onward-length waits (tells .wait-size) (L n) count) (λ f e. from f (onward-from waits (tells .wait-size) (L n) count f e) (levels n))
+      (onward 32 waits (L n)) (onward-length waits (tells .wait-size) (L n) 32) (λ f e. from f (onward-from waits (tells .wait-size) (L n) 32 f e) (levels n))
     where
-      from : (g : ℕ) → (f : ℕ) × (f < count) × (getD (L n) f false ≡ true) × (getD (waits f) g false ≡ true) → Closed tails (λ f. Walk sq 0 f n) (starts n) (L n) → Walk sq 0 g (suc n)
+      from : (g : ℕ) → (f : ℕ) × (f < 32) × (getD (L n) f false ≡ true) × (getD (waits f) g false ≡ true) → Closed tails (λ f. Walk sq 0 f n) (starts n) (L n) → Walk sq 0 g (suc n)
       from g r c = then-wait (c .known (r .0) (r .2)) (goes-wait (entry sq (r .0) g) (sym (tells .wait-at (r .0) g (n, c .known (r .0) (r .2))) ∙ r .3))
 
-  caller : (f g : ℕ) → entry sq f g ≡ Waits → f < count
-  caller f g e = go (decLt f count)
-    where
-      go : Dec (f < count) → f < count
-      go (yes l) = l
-      go (no l) = let q : goes true (entry sq f g) ≡ true = ap (goes true) e in absurd (clash q (ap (goes true) (within .callers f g (omega arith))))
+  inside : (f m : ℕ) → getD (L m) f false ≡ true → f < 32
+  inside f m s = omega (arith, in-length (L m) f s, levels m .size)
 
   walked : {f h n : ℕ} (m : ℕ) → getD (L m) f false ≡ true → Walk sq f h n → getD (L (m + n)) h false ≡ true
   walked {h = h} m s stay = let e : m ≡ m + 0 = omega arith in subst (λ k. getD (L k) h false ≡ true) e s
   walked m s (tail {f} {g} e v) = walked m (levels m .closed f s g (tells .tail-at f g (m, levels m .known f s) ∙ ap (goes false) e)) v
   walked {h = h} m s (wait {f} {g} {n = n} e v) =
       let q : suc m + n ≡ m + suc n = omega arith in
-      let k = levels (suc m) .begun g (onward-to waits (tells .wait-size) (L m) count f g (caller f g e) s (tells .wait-at f g (m, levels m .known f s) ∙ ap (goes true) e)) in
+      let k = levels (suc m) .begun g (onward-to waits (tells .wait-size) (L m) 32 f g (inside f m s) s (tells .wait-at f g (m, levels m .known f s) ∙ ap (goes true) e)) in
       subst (λ k. getD (L k) h false ≡ true) q (walked (suc m) k v)
 
   in-level : {f n : ℕ} → Walk sq 0 f n → getD (L n) f false ≡ true
@@ -122,15 +119,12 @@ module _ (sq : Square) (count : ℕ) (within : Within count sq) (tails waits : �
   deep {R = R} f d r s = omega (arith, no-deeper f d r, d .one-more, d .largest (s .0) R (levels R .known (s .0) (s .1)))
 
   -- the verdict by levels is the verdict by walks
-  same-shape : {s : Shape} → Judged sq s → {R : ℕ} → IsReached sq R → {v : Verdict} → Settles tails waits count R v → v ≡ told (ok s)
+  same-shape : {s : Shape} → Judged sq s → {R : ℕ} → IsReached sq R → {v : Verdict} → Settles tails waits R v → v ≡ told (ok s)
   same-shape j i (ends zero all none) = absurd (clash (levels 0 .begun 0 one-in) (none 0))
   same-shape (as-flat f d r) i (ends (suc k) all none) = ap₂ verdict.Flat (depth-only (ends-depth k (all k (omega arith)) none) d) (reached-only i r)
   same-shape (as-stacked n r) i (ends (suc k) all none) = absurd (n (ends-flat (suc k) none))
   same-shape (as-flat f d r) {R} i (goes-on s) = let e = reached-only i r in absurd (deep f d i s)
   same-shape (as-stacked n r) i (goes-on s) = ap verdict.Stacked (reached-only i r)
 
-  narrow : count ≤ 32 → Narrow sq
-  narrow c f g l = within .callees f g (omega arith)
-
-  pub settled : count ≤ 32 → {R : ℕ} → IsReached sq R → {v : Verdict} → Settles tails waits count R v → v ≡ told (ok (judge sq))
-  settled c i s = same-shape (judged sq (narrow c)) i s
+  pub settled : {R : ℕ} → IsReached sq R → {v : Verdict} → Settles tails waits R v → v ≡ told (ok (judge sq))
+  settled i s = same-shape (judged sq narrow) i s

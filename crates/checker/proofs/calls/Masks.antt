@@ -1,95 +1,92 @@
 -- Sets that say what the rows of a square say. Assumes nothing.
-use Prim.Native.Nat.{ℕ, _≤_, _<_}
+use Prim.Native.Nat.{ℕ, _<_}
 use mathlib.Core.Bool.{Bool, true, false}
 use mathlib.Core.List.{List}
 use mathlib.Core.Path.{_≡_, refl, sym, ap, ap₂, _∙_}
 use native.Mathlib.Omega.{arith}
-use native.Mathlib.Decide.{ℕ-discrete, decLt}
-use lib.ListN.{length, getD, set, replicate, List·getD-eq-default}
+use native.Mathlib.Decide.{decLt}
+use lib.ListN.{length, getD, set, List·getD-eq-default}
 use lib.Seq.{getD-set-same, getD-set-other, ext-getD}
 use Rattle.meaning.specs.declared.How.{How}
 use Rattle.meaning.specs.declared.How.the-variants.{Never, Tail, Waits}
-use Rattle.meaning.specs.Sets.{upto, zip, or}
-use Rattle.meaning.specs.Calls.{Square, entry, stronger, called, row, Reaches}
+use Rattle.meaning.specs.Sets.{upto, zip, or, differ, except}
+use Rattle.meaning.specs.Calls.{Square, entry, called, row, Reaches}
 use Rattle.theory.proofs.Bools.{upto-length, upto-at, zip-at, zip-length}
-use Rattle.checker.specs.Bits.{bitsOf, filled, member}
-use Rattle.checker.specs.Scan.{goes, Led, Within, Tells}
+use Rattle.theory.proofs.Walks.{Narrow}
+use Rattle.checker.specs.OwnershipBits.{bitsOf}
+use Rattle.checker.specs.Bits.{member}
+use Rattle.checker.specs.Noting.{goes, Called, Tells}
 use Rattle.checker.proofs.calls.Digits.{bits-length}
-use Rattle.checker.proofs.calls.Filling.{filled-length, filled-at, filled-past}
 
--- a list by its 32 entries
-by-calls : (l : List Bool) (test : ℕ → Bool) → length l ≡ 32 → ((g : ℕ) → g < 32 → getD l g false ≡ test g) → l ≡ upto 32 test
-by-calls l test e at = ext-getD false l (upto 32 test) (e ∙ sym (upto-length 32 test)) (λ g k. at g (omega arith) ∙ sym (upto-at 32 test g false (omega arith)))
+-- what is no call is not waited for
+pub no-wait : (h : How) → called h ≡ false → goes true h ≡ false
+no-wait Never e = refl
+no-wait Tail e = refl
+no-wait Waits e = e
 
--- the set of those that a row calls, with one call more
-pub led-start : Led (replicate 32 Never) 0
-unfolding bitsOf upto
-led-start = refl
+-- a call that does not wait is a tail call
+only-tail : (h : How) → differ (or (called h) (goes true h)) (goes true h) ≡ goes false h
+only-tail Never = refl
+only-tail Tail = refl
+only-tail Waits = refl
 
-pub led-more : (row : List How) (x y g : ℕ) (h : How) → length row ≡ 32 → g < 32 → called h ≡ true → Led row x → bitsOf 32 y ≡ set (bitsOf 32 x) g true → Led (set row g h) y
-led-more row x y g h l k c p e = by-calls (bitsOf 32 y) (λ i. called (getD (set row g h) i Never)) (bits-length 32 y) (λ i q. ap (λ b. getD b i false) e ∙ at i q (ℕ-discrete i g))
-  where
-    at : (i : ℕ) → i < 32 → Dec (i ≡ g) → getD (set (bitsOf 32 x) g true) i false ≡ called (getD (set row g h) i Never)
-    at i q (yes n) =
-        rw n (getD-set-same (bitsOf 32 x) g true false (omega (arith, bits-length 32 x)) ∙ sym (ap called (getD-set-same row g h Never (omega arith)) ∙ c))
-    at i q (no n) =
-        getD-set-other (bitsOf 32 x) g i true false n ∙ ap (λ b. getD b i false) p ∙ upto-at 32 (λ j. called (getD row j Never)) i false q ∙ sym (ap called (getD-set-other row g i h Never n))
+-- the functions that a row calls in one way
+abbrev pub ways : Square → Bool → ℕ → List Bool
+ways sq waiting f = upto 32 (λ g. goes waiting (entry sq f g))
 
-pub wait-called : (h : How) → called (stronger h Waits) ≡ true
-wait-called Never = refl
-wait-called Tail = refl
-wait-called Waits = refl
+pub leads : (sq : Square) (sets : List ℕ) → Called sq sets → (f : ℕ) → f < 32 → member sets f ≡ row sq f
+unfolding row
+leads sq sets c f l = c .led f l
 
-pub tail-called : (h : How) → called (stronger h Tail) ≡ true
-tail-called Never = refl
-tail-called Tail = refl
-tail-called Waits = refl
+module _ (sq : Square) (f : ℕ) where
+  abbrev calls : List Bool
+  calls = upto 32 (λ g. called (entry sq f g))
 
--- the functions that a row calls in one way, and in both
-abbrev pub ways : Square → (count : ℕ) → Bool → ℕ → List Bool
-ways sq count waiting f = filled false count (λ g. goes waiting (entry sq f g))
+  abbrev waits : List Bool
+  waits = ways sq true f
 
-abbrev pub both-ways : Square → (count : ℕ) → ℕ → List Bool
-both-ways sq count f = zip or (ways sq count false f) (ways sq count true f)
+  same : length calls ≡ length waits
+  same = upto-length 32 (λ g. called (entry sq f g)) ∙ sym (upto-length 32 (λ g. goes true (entry sq f g)))
 
-either-way : (h : How) → or (goes false h) (goes true h) ≡ called h
-either-way Never = refl
-either-way Tail = refl
-either-way Waits = refl
+  both : length (zip or calls waits) ≡ length waits
+  both = zip-length or calls waits same ∙ same
+
+  size : length (except calls waits) ≡ 32
+  size = zip-length differ (zip or calls waits) waits both ∙ both ∙ upto-length 32 (λ g. goes true (entry sq f g))
+
+  tail-at : (g : ℕ) → g < 32 → getD (except calls waits) g false ≡ getD (ways sq false f) g false
+  tail-at g l =
+      let w = upto-at 32 (λ g. goes true (entry sq f g)) g false l in
+      zip-at differ refl (zip or calls waits) waits g both
+      ∙ ap₂ differ (zip-at or refl calls waits g same ∙ ap₂ or (upto-at 32 (λ g. called (entry sq f g)) g false l) w) w
+      ∙ only-tail (entry sq f g)
+      ∙ sym (upto-at 32 (λ g. goes false (entry sq f g)) g false l)
+
+  -- tails are what is called and not waited for
+  pub tails-left : except (row sq f) (ways sq true f) ≡ ways sq false f
+  unfolding row
+  tails-left = ext-getD false (except calls waits) (ways sq false f) (size ∙ sym (upto-length 32 (λ g. goes false (entry sq f g)))) (λ g l. tail-at g (omega (arith, size)))
 
 -- tables whose entries at f are the masks of row f
-abbrev pub Masked : Square → (count : ℕ) → (tails waits : List ℕ) → ℕ → Type 0
-Masked sq count tails waits f = (member tails f ≡ ways sq count false f) × (member waits f ≡ ways sq count true f)
+abbrev pub Masked : Square → (tails waits : List ℕ) → ℕ → Type 0
+Masked sq tails waits f = (member tails f ≡ ways sq false f) × (member waits f ≡ ways sq true f)
 
-pub masked-here : (sq : Square) (count : ℕ) (tails waits : List ℕ) (i t w : ℕ) → i < length tails → i < length waits → bitsOf 32 t ≡ ways sq count false i → bitsOf 32 w ≡ ways sq count true i
-    → Masked sq count (set tails i t) (set waits i w) i
-masked-here sq count tails waits i t w l k a b = (ap (bitsOf 32) (getD-set-same tails i t 0 l) ∙ a, ap (bitsOf 32) (getD-set-same waits i w 0 k) ∙ b)
+pub masked-here : (sq : Square) (tails waits : List ℕ) (i t w : ℕ) → i < length tails → i < length waits → bitsOf 32 t ≡ ways sq false i → bitsOf 32 w ≡ ways sq true i
+    → Masked sq (set tails i t) (set waits i w) i
+masked-here sq tails waits i t w l k a b = (ap (bitsOf 32) (getD-set-same tails i t 0 l) ∙ a, ap (bitsOf 32) (getD-set-same waits i w 0 k) ∙ b)
 
-pub masked-other : (sq : Square) (count : ℕ) (tails waits : List ℕ) (i t w f : ℕ) → (f ≡ i → ⊥) → Masked sq count tails waits f → Masked sq count (set tails i t) (set waits i w) f
-masked-other sq count tails waits i t w f n m = (ap (bitsOf 32) (getD-set-other tails i f t 0 n) ∙ m .0, ap (bitsOf 32) (getD-set-other waits i f w 0 n) ∙ m .1)
+pub masked-other : (sq : Square) (tails waits : List ℕ) (i t w f : ℕ) → (f ≡ i → ⊥) → Masked sq tails waits f → Masked sq (set tails i t) (set waits i w) f
+masked-other sq tails waits i t w f n m = (ap (bitsOf 32) (getD-set-other tails i f t 0 n) ∙ m .0, ap (bitsOf 32) (getD-set-other waits i f w 0 n) ∙ m .1)
 
-module _ (sq : Square) (count : ℕ) (small : count ≤ 32) (within : Within count sq) where
-  way-at : (waiting : Bool) (f g : ℕ) → getD (ways sq count waiting f) g false ≡ goes waiting (entry sq f g)
-  way-at waiting f g = go (decLt g count) (decLt g 32)
+module _ (sq : Square) (narrow : Narrow sq) where
+  way-at : (waiting : Bool) (f g : ℕ) → getD (ways sq waiting f) g false ≡ goes waiting (entry sq f g)
+  way-at waiting f g = go (decLt g 32)
     where
-      none : count ≤ g → goes waiting (entry sq f g) ≡ false
-      none l = ap (goes waiting) (within .callees f g l)
+      go : Dec (g < 32) → getD (ways sq waiting f) g false ≡ goes waiting (entry sq f g)
+      go (yes l) = upto-at 32 (λ x. goes waiting (entry sq f x)) g false l
+      go (no l) = List·getD-eq-default (ways sq waiting f) false (omega (arith, upto-length 32 (λ x. goes waiting (entry sq f x)))) ∙ sym (ap (goes waiting) (narrow f g (omega arith)))
 
-      go : Dec (g < count) → Dec (g < 32) → getD (ways sq count waiting f) g false ≡ goes waiting (entry sq f g)
-      go (yes l) d = filled-at false count (λ x. goes waiting (entry sq f x)) g false l
-      go (no l) (yes k) = filled-past false count (λ x. goes waiting (entry sq f x)) g false (omega arith) k ∙ sym (none (omega arith))
-      go (no l) (no k) =
-          List·getD-eq-default (ways sq count waiting f) false (omega (arith, filled-length false count (λ x. goes waiting (entry sq f x)) small)) ∙ sym (none (omega arith))
-
-  pub both-row : (f : ℕ) → both-ways sq count f ≡ row sq f
-  unfolding row
-  both-row f =
-      let a = filled-length false count (λ x. goes false (entry sq f x)) small in
-      let b = filled-length false count (λ x. goes true (entry sq f x)) small in
-      by-calls (both-ways sq count f) (λ g. called (entry sq f g)) (zip-length or (ways sq count false f) (ways sq count true f) (a ∙ sym b) ∙ a)
-      (λ g l. zip-at or refl (ways sq count false f) (ways sq count true f) g (a ∙ sym b) ∙ ap₂ or (way-at false f g) (way-at true f g) ∙ either-way (entry sq f g))
-
-  pub tells : (tails waits : List ℕ) → ((f : ℕ) → Reaches sq f → Masked sq count tails waits f) → Tells sq (member tails) (member waits)
+  pub tells : (tails waits : List ℕ) → ((f : ℕ) → Reaches sq f → Masked sq tails waits f) → Tells sq (member tails) (member waits)
   tells tails waits m =
       record {
         tail-size = λ f. bits-length 32 (getD tails f 0);

@@ -1,26 +1,29 @@
--- The square that the rows make is the square of the file, and no call stands outside the functions that are declared. Assumes nothing.
+-- The square that the words of a file's bodies make is the square of the file. Assumes nothing.
 use Prim.Native.Nat.{ℕ, zero, suc, _+_, _≤_, _<_}
 use mathlib.Core.List.{List, [], _∷_, _++_, append-nil, append-assoc}
-use mathlib.Core.Path.{_≡_, refl, sym, ap, _∙_, subst}
+use mathlib.Core.Path.{_≡_, refl, sym, ap, _∙_}
 use native.Mathlib.Omega.{arith}
 use native.Mathlib.Numerals.{add-one}
 use native.Mathlib.Decide.{decLt}
-use lib.ListN.{length, getD, set, take, replicate, length-set, List·getD-eq-default}
+use lib.ListN.{length, getD, set, take, replicate, length-set}
 use lib.Seq.{set-getD, set-set, getD-set-same, take-suc, take-length, length-take-le}
 use Rattle.meaning.specs.declared.Call.{Call}
 use Rattle.meaning.specs.declared.How.{How}
 use Rattle.meaning.specs.declared.How.the-variants.{Never, Tail, Waits}
+use Rattle.meaning.specs.Outcome.{ok}
 use Rattle.meaning.specs.Syntax.{Term, Branches, File, GV, AT, MK, CL, TL, OP, LK, NU, AR, IF, BR, end}
+use Rattle.meaning.specs.Reading.{read}
 use Rattle.meaning.specs.Plain.{no-body}
 use Rattle.meaning.specs.Machine.{body-of}
-use Rattle.meaning.specs.Calls.{calls, calls-branches, calls-from, call, Square, entry, noted, fill, no-calls, square, judge, shape, Reaches}
-use Rattle.theory.proofs.Shapes.{square-narrow}
-use Rattle.standing.specs.Table.{Declared}
+use Rattle.meaning.specs.Calls.{calls, calls-branches, calls-from, call, Square, noted, fill, no-calls, square}
+use Rattle.standing.specs.Table.{tableOf, Declared}
+use Rattle.standing.proofs.Declaring.{read-declared}
 use Rattle.checker.specs.Bits.{filled}
-use Rattle.checker.specs.Scan.{noted-in, no-row, rowIn, squareIn, Counted, Within, Kept}
+use Rattle.checker.specs.Noting.{noteCalls, waitsIn, tailsIn, rowOf, wordsOf, squareOf}
+use Rattle.checker.proofs.calls.Halves.{by-entries}
 use Rattle.checker.proofs.calls.Filling.{fill-start, fill-in, filled-length, filled-at, filled-past}
-use Rattle.checker.proofs.calls.Keeping.{narrow, reaches-inside, judge-kept, within-kept}
-use Rattle.checker.proofs.calls.Rows.{fill-row, fill-row-append, row-is, row-within}
+use Rattle.checker.proofs.calls.Rows.{noted-in, fill-row, fill-row-append, row-of-body}
+use Rattle.checker.proofs.calls.Squaring.{row-at, row-none}
 
 fill-append : (a b : List Call) (sq : Square) → fill (a ++ b) sq ≡ fill b (fill a sq)
 unfolding fill
@@ -73,19 +76,18 @@ from-append k (t ∷ a) b =
     let e : suc k + length a ≡ k + suc (length a) = omega arith in
     ap (λ l. calls t k ++ l) (from-append (suc k) a b ∙ ap (λ n. calls-from (suc k) a ++ calls-from n b) e) ∙ sym (append-assoc (calls t k) (calls-from (suc k) a) (calls-from (k + suc (length a)) b))
 
-pub row-in : (bytes table : List ℕ) (count f : ℕ) → f < count → getD (squareIn bytes table count) f [] ≡ rowIn bytes table f
-unfolding squareIn
-row-in bytes table count f l = filled-at no-row count (λ g. rowIn bytes table g) f [] l
-
-module _ (file : File) (bytes table : List ℕ) (declared : Declared file bytes table) where
+module _ (file : File) where
   abbrev n : ℕ
-  n = length (file .functions)
+  n = length (file .bodies)
+
+  abbrev no-row : List How
+  no-row = replicate 32 Never
 
   abbrev rows : ℕ → List How
-  rows = rowIn bytes table
+  rows f = fill-row (calls (body-of file f) f) no-row
 
   -- the calls of one body more
-  one-more : (j : ℕ) → j < length (file .bodies) → calls-from 0 (take (suc j) (file .bodies)) ≡ calls-from 0 (take j (file .bodies)) ++ calls (body-of file j) j
+  one-more : (j : ℕ) → j < n → calls-from 0 (take (suc j) (file .bodies)) ≡ calls-from 0 (take j (file .bodies)) ++ calls (body-of file j) j
   unfolding calls-from
   one-more j l =
       let e : 0 + length (take j (file .bodies)) ≡ j = omega (arith, length-take-le j (file .bodies) (omega arith)) in
@@ -94,66 +96,40 @@ module _ (file : File) (bytes table : List ℕ) (declared : Declared file bytes 
       ∙ ap (λ x. calls-from 0 (take j (file .bodies)) ++ x) (ap (λ k. calls-from k (body-of file j ∷ [])) e ∙ append-nil (calls (body-of file j) j))
 
   begun : fill (calls-from 0 []) no-calls ≡ filled no-row 0 rows
-  unfolding fill calls-from no-calls no-row
+  unfolding fill calls-from no-calls
   begun = fill-start no-row rows
 
-  squares : (j : ℕ) → j ≤ n → fill (calls-from 0 (take j (file .bodies))) no-calls ≡ filled no-row j rows
-  squares zero h = begun
-  squares (suc j) h =
-      let l : j < 32 = omega (arith, declared .functions) in
+  squares : n ≤ 32 → (j : ℕ) → j ≤ n → fill (calls-from 0 (take j (file .bodies))) no-calls ≡ filled no-row j rows
+  squares small zero h = begun
+  squares small (suc j) h =
+      let l : j < 32 = omega arith in
       let k : j < length (filled no-row j rows) = omega (arith, filled-length no-row j rows (omega arith)) in
-      ap (λ cs. fill cs no-calls) (one-more j (omega (arith, declared .many)))
+      ap (λ cs. fill cs no-calls) (one-more j (omega arith))
       ∙ fill-append (calls-from 0 (take j (file .bodies))) (calls (body-of file j) j) no-calls
-      ∙ ap (fill (calls (body-of file j) j)) (squares j (omega arith))
+      ∙ ap (fill (calls (body-of file j) j)) (squares small j (omega arith))
       ∙ rowed (body-of file j) j (filled no-row j rows) k
-      ∙ ap (set (filled no-row j rows) j) (ap (fill-row (calls (body-of file j) j)) (filled-past no-row j rows j [] (omega arith) l) ∙ sym (row-is file bytes table declared j (omega arith)))
+      ∙ ap (set (filled no-row j rows) j) (ap (fill-row (calls (body-of file j) j)) (filled-past no-row j rows j [] (omega arith) l))
       ∙ fill-in no-row j rows (rows j) l refl ∙ ap (λ i. filled no-row i rows) (add-one j)
 
-  pub square-is : squareIn bytes table n ≡ square file
-  unfolding squareIn square
-  square-is = sym (squares n (omega arith)) ∙ ap (λ ts. fill (calls-from 0 ts) no-calls) (ap (λ k. take k (file .bodies)) (sym (declared .many)) ∙ take-length (file .bodies))
+  square-rows : n ≤ 32 → square file ≡ filled no-row n rows
+  unfolding square
+  square-rows small = ap (λ ts. fill (calls-from 0 ts) no-calls) (sym (take-length (file .bodies))) ∙ squares small n (omega arith)
 
-  outside : (f g : ℕ) → n ≤ f → entry (squareIn bytes table n) f g ≡ Never
-  unfolding squareIn no-row
-  outside f g h = go (decLt f 32)
+  -- a row by its word
+  row-by-word : (bytes table : List ℕ) → Declared file bytes table → (f : ℕ) → f < 32 → getD (filled no-row n rows) f [] ≡ row-at (wordsOf file) f
+  unfolding wordsOf
+  row-by-word bytes table declared f l = go (decLt f n)
     where
-      none : (k j : ℕ) → getD (replicate k Never) j Never ≡ Never
-      none zero j = refl
-      none (suc k) zero = refl
-      none (suc k) (suc j) = none k j
+      word : ℕ → ℕ
+      word g = noteCalls (calls (body-of file g) g) 0
 
-      go : Dec (f < 32) → entry (filled no-row n rows) f g ≡ Never
-      go (yes l) = ap (λ r. getD r g Never) (filled-past no-row n rows f [] h l) ∙ none 32 g
-      go (no l) = ap (λ r. getD r g Never) (List·getD-eq-default (filled no-row n rows) [] (omega (arith, filled-length no-row n rows (declared .functions))))
+      go : Dec (f < n) → getD (filled no-row n rows) f [] ≡ row-at (filled 0 n word) f
+      go (yes k) = filled-at no-row n rows f [] k ∙ sym (ap (λ w. rowOf (waitsIn w) (tailsIn w)) (filled-at 0 n word f 0 k) ∙ row-of-body file bytes table declared f (omega (arith, declared .many)))
+      go (no k) = filled-past no-row n rows f [] (omega arith) l ∙ sym (ap (λ w. rowOf (waitsIn w) (tailsIn w)) (filled-past 0 n word f 0 (omega arith) l) ∙ row-none)
 
-  pub within : Within n (squareIn bytes table n)
-  unfolding squareIn
-  within = record { callers = outside; callees = λ f g h. go f g h (decLt f n) }
-    where
-      go : (f g : ℕ) → n ≤ g → Dec (f < n) → entry (squareIn bytes table n) f g ≡ Never
-      go f g h (yes l) = ap (λ r. getD r g Never) (row-in bytes table n f l) ∙ row-within file bytes table declared f g l h
-      go f g h (no l) = outside f g (omega arith)
-
-  pub counted : (count : ℕ) → Counted table count → count ≡ n
-  counted count c = go (decLt count n) (decLt n count)
-    where
-      go : Dec (count < n) → Dec (n < count) → count ≡ n
-      go (yes l) d = absurd (omega (arith, declared .functions, declared .few count, declared .parameters count l, c .behind (omega (arith, declared .functions))))
-      go (no l) (yes k) = absurd (c .before n k (declared .no-function n (omega arith) (omega (arith, c .small))))
-      go (no l) (no k) = omega arith
-
-  pub within-square : Within n (square file)
-  within-square = subst (Within n) square-is within
-
-  -- the row of a function that is reached
-  pub row-reached : (f : ℕ) → Reaches (square file) f → getD (square file) f [] ≡ rowIn bytes table f
-  row-reached f r =
-      ap (λ sq. getD sq f []) (sym square-is) ∙ row-in bytes table n f (reaches-inside (square file) n (declared .first) within-square f r)
-
-  -- a square with these rows alone
-  pub kept-within : (sq : Square) → Kept (square file) sq → (count : ℕ) → Counted table count → Within count sq
-  kept-within sq k count c = subst (λ m. Within m sq) (sym (counted count c)) (within-kept k n (declared .functions) within-square)
-
-  pub kept-shape : (sq : Square) → Kept (square file) sq → judge sq ≡ shape file
-  unfolding shape
-  kept-shape sq k = judge-kept k (square-narrow file) (narrow sq n (declared .functions) (within-kept k n (declared .functions) within-square))
+pub words-square : (f : List ℕ) (file : File) → read f ≡ ok file → squareOf (wordsOf file) ≡ square file
+unfolding squareOf
+words-square f file e =
+    let declared = read-declared f file e in
+    let small : length (file .bodies) ≤ 32 = omega (arith, declared .functions, declared .many) in
+    sym (square-rows file small ∙ by-entries [] (filled (replicate 32 Never) (length (file .bodies)) (rows file)) (row-at (wordsOf file)) (filled-length (replicate 32 Never) (length (file .bodies)) (rows file) small) (row-by-word file f (tableOf file) declared))

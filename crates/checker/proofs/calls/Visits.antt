@@ -13,28 +13,26 @@ use Rattle.meaning.specs.Calls.{Square, entry, called, row, reach, Walk, stay, 
 use Rattle.theory.proofs.Bools.{upto-length, upto-at, first-in, first-none}
 use Rattle.theory.proofs.Counting.{nowhere}
 use Rattle.theory.proofs.Walks.{Narrow, reaches-next}
-use Rattle.theory.proofs.Reach.{clash, decided, reach-found, reach-all, reached}
-use Rattle.checker.specs.Bits.{bitsOf}
+use Rattle.theory.proofs.Reach.{clash, reach-found, reach-all, reached}
+use Rattle.checker.specs.OwnershipBits.{bitsOf}
 use Rattle.checker.proofs.calls.Digits.{bits-length}
-use Rattle.checker.proofs.calls.Closing.{Closed, Going, all-done, spent, visited, settled-now, unseen-now}
+use Rattle.checker.proofs.calls.Closing.{Closed, Going, all-done, spent, visited, settled-now}
 use Rattle.checker.proofs.calls.Levels.{one, one-in}
 
--- on the way, after k visits: Good holds of the functions that are seen and not to do, and Rest of those that are not seen
-pub record Visiting (sq : Square) (Good Rest : ℕ → Type 0) (k todo seen : ℕ) : Type 0 where
+-- on the way, after k visits: Good holds of the functions that are seen and not to do
+pub record Visiting (sq : Square) (Good : ℕ → Type 0) (k todo seen : ℕ) : Type 0 where
   pub done : List ℕ
   pub many : length done ≡ k
   pub going : Going (row sq) (Reaches sq) (bitsOf 32 1) (bitsOf 32 todo) (bitsOf 32 seen) done
   pub good : (f : ℕ) → getD (bitsOf 32 seen) f false ≡ true → getD (bitsOf 32 todo) f false ≡ false → Good f
-  pub rest : (f : ℕ) → getD (bitsOf 32 seen) f false ≡ false → Rest f
 
 -- in the end
-pub record Visited (sq : Square) (Good Rest : ℕ → Type 0) (seen : ℕ) : Type 0 where
+pub record Visited (sq : Square) (Good : ℕ → Type 0) (seen : ℕ) : Type 0 where
   pub good : (f : ℕ) → Reaches sq f → Good f
-  pub rest : (f : ℕ) → (Reaches sq f → ⊥) → Rest f
   pub count : IsReached sq (how-many (bitsOf 32 seen))
 
-pub visit-start : (sq : Square) (Good Rest : ℕ → Type 0) → ((f : ℕ) → Rest f) → Visiting sq Good Rest 0 1 1
-visit-start sq Good Rest r =
+pub visit-start : (sq : Square) (Good : ℕ → Type 0) → Visiting sq Good 0 1 1
+visit-start sq Good =
     record {
       done = [];
       many = refl;
@@ -49,7 +47,6 @@ visit-start sq Good Rest r =
         over = λ f h. absurd (nowhere h);
       };
       good = λ f a b. absurd (clash a b);
-      rest = λ f e. r f;
     }
 
 same-truth : (a b : Bool) → (a ≡ true → b ≡ true) → (b ≡ true → a ≡ true) → a ≡ b
@@ -86,25 +83,21 @@ module _ (sq : Square) (narrow : Narrow sq) where
       ext-getD false seen (reach sq) (c .size ∙ sym (reach-found sq narrow .size))
       (λ f l. same-truth (getD seen f false) (getD (reach sq) f false) (λ e. reach-all sq narrow f (c .known f e)) (λ e. seen-all c f (reach-found sq narrow .known f e)))
 
-  module _ {Good Rest : ℕ → Type 0} {k todo seen : ℕ} (v : Visiting sq Good Rest k todo seen) where
+  module _ {Good : ℕ → Type 0} {k todo seen : ℕ} (v : Visiting sq Good k todo seen) where
     due : (i : ℕ) → i ≡ first (bitsOf 32 todo) → i < 32 → getD (bitsOf 32 todo) i false ≡ true
     due i e l = ap (λ x. getD (bitsOf 32 todo) x false) e ∙ first-in (bitsOf 32 todo) (omega (arith, v .going .size-todo))
 
-    pub visit-reaches : (i : ℕ) → i ≡ first (bitsOf 32 todo) → i < 32 → Reaches sq i
-    visit-reaches i e l = v .going .known i (v .going .within i (due i e l))
-
     -- one visit, to i
-    pub visit-next : (Good′ Rest′ : ℕ → Type 0) (i leads left fresh todo′ seen′ : ℕ) → i ≡ first (bitsOf 32 todo) → i < 32 → bitsOf 32 leads ≡ row sq i
+    pub visit-next : (Good′ : ℕ → Type 0) (i leads left fresh todo′ seen′ : ℕ) → i ≡ first (bitsOf 32 todo) → i < 32 → bitsOf 32 leads ≡ row sq i
         → bitsOf 32 left ≡ set (bitsOf 32 todo) (first (bitsOf 32 todo)) false → bitsOf 32 fresh ≡ except (bitsOf 32 leads) (bitsOf 32 seen)
         → bitsOf 32 todo′ ≡ zip or (bitsOf 32 left) (bitsOf 32 fresh) → bitsOf 32 seen′ ≡ zip or (bitsOf 32 leads) (bitsOf 32 seen)
-        → Good′ i → ((f : ℕ) → (f ≡ i → ⊥) → Good f → Good′ f) → ((f : ℕ) → (f ≡ i → ⊥) → Rest f → Rest′ f) → Visiting sq Good′ Rest′ (k + 1) todo′ seen′
-    visit-next Good′ Rest′ i leads left fresh todo′ seen′ e l r a b t s new old other =
+        → Good′ i → ((f : ℕ) → (f ≡ i → ⊥) → Good f → Good′ f) → Visiting sq Good′ (k + 1) todo′ seen′
+    visit-next Good′ i leads left fresh todo′ seen′ e l r a b t s new old =
         record {
           done = i ∷ v .done;
           many = omega (arith, v .many);
           going = subst₂ (λ x y. Going (row sq) (Reaches sq) (bitsOf 32 1) x y (i ∷ v .done)) (sym T) (sym S) (visited (row sq) row-length (Reaches sq) row-step i l at (v .going));
           good = λ f x y. from f (settled-now (row sq) row-length (Reaches sq) row-step i l at (v .going) f (ap (λ z. getD z f false) (sym S) ∙ x) (ap (λ z. getD z f false) (sym T) ∙ y));
-          rest = λ f x. let u = unseen-now (row sq) row-length (Reaches sq) row-step i l at (v .going) f (ap (λ z. getD z f false) (sym S) ∙ x) in other f (u .0) (v .rest f (u .1));
         }
       where
         T : bitsOf 32 todo′ ≡ zip or (set (bitsOf 32 todo) i false) (except (row sq i) (bitsOf 32 seen))
@@ -120,23 +113,17 @@ module _ (sq : Square) (narrow : Narrow sq) where
         from f (inl q) = subst Good′ (sym q) new
         from f (inr h) = old f (h .0) (v .good f (h .1) (h .2))
 
-    all-visited : ((f : ℕ) → getD (bitsOf 32 todo) f false ≡ false) → Visited sq Good Rest seen
+    all-visited : ((f : ℕ) → getD (bitsOf 32 todo) f false ≡ false) → Visited sq Good seen
     all-visited none =
         let c = all-done (v .going) none in
         record {
           good = λ f r. v .good f (seen-all c f r) (none f);
-          rest = λ f n. v .rest f (unseen c f n (decided (getD (bitsOf 32 seen) f false)));
           count = subst (λ l. IsReached sq (how-many l)) (sym (seen-reach c)) (reached sq narrow);
         }
-      where
-        unseen : Closed (row sq) (Reaches sq) (bitsOf 32 1) (bitsOf 32 seen) → (f : ℕ) → (Reaches sq f → ⊥)
-            → (getD (bitsOf 32 seen) f false ≡ true) ⊎ (getD (bitsOf 32 seen) f false ≡ false) → getD (bitsOf 32 seen) f false ≡ false
-        unseen c f n (inl e) = absurd (n (c .known f e))
-        unseen c f n (inr e) = e
 
     -- nothing is left to do, or 32 visits were made
-    pub visit-stop : (i : ℕ) → i ≡ first (bitsOf 32 todo) → 32 ≤ i → Visited sq Good Rest seen
+    pub visit-stop : (i : ℕ) → i ≡ first (bitsOf 32 todo) → 32 ≤ i → Visited sq Good seen
     visit-stop i e h = all-visited (first-none (bitsOf 32 todo) (omega (arith, v .going .size-todo)))
 
-    pub visit-spent : 32 ≤ k → k ≤ 32 → Visited sq Good Rest seen
+    pub visit-spent : 32 ≤ k → k ≤ 32 → Visited sq Good seen
     visit-spent h l = all-visited (spent (v .going) (omega (arith, v .many)))

@@ -17,6 +17,7 @@ use Rattle.meaning.specs.Plain.{place-of}
 use Rattle.meaning.specs.Outcome.{Outcome, ok, then, require}
 use Rattle.meaning.specs.Ownership.{check, check-branches}
 use Rattle.meaning.specs.Ownership as tree
+use Rattle.meaning.specs.Calls.{calls, calls-branches}
 use Rattle.standing.specs.Bytes.{byteAt, arityIn, fieldsIn}
 use Rattle.standing.specs.Stands.{Stands, Each, count}
 use Rattle.standing.specs.Stands as stands
@@ -26,9 +27,11 @@ use Rattle.checker.specs.declared.bodies.Checked.the-variants.{Next, Fau
 use Rattle.checker.specs.OwnershipBits.{bitsOf}
 use Rattle.checker.specs.Slots.{slotOf, slotsOf, bound-slot, kindAt}
 use Rattle.checker.specs.Ownership.{laidOf, creditsOf, branchOf}
-use Rattle.checker.specs.OwnershipReady.{spanned, Ready, Judged, extraBy, boundBy, ReadyAll, Seen, JudgedAll}
+use Rattle.checker.specs.Noting.{noteCalls}
+use Rattle.checker.specs.OwnershipReady.{spanned, Ready, Judged, Noted, extraBy, boundBy, ReadyAll, Seen, JudgedAll, NotedAll}
 use Rattle.checker.proofs.ownership.Spending.{slots-more}
 use Rattle.checker.proofs.ownership.Taking.{Scaled, sorts-scaled, alike-with}
+use Rattle.checker.proofs.ownership.Nodes.{noted-both}
 use Rattle.checker.proofs.ownership.Cycle.{spanned-next, spanned-fault}
 
 -- ---- slots bound one after the other
@@ -191,6 +194,10 @@ end-judged {credit = credit} {slots = slots} {bound = bound} z = record {
       ap Next (sym (n .1)) ∙ sym (ap (λ bs. spanned (g .next) (check-branches (g .file .constructors) (g .file .functions) (g .sort) bs (boundBy credit) list (slotsOf bound slots))) (n .0));
 }
 
+pub end-noted : {bytes decl : List ℕ} {at left credit result bound w : ℕ} → left ≡ 0 → NotedAll bytes decl at left credit result bound w w
+unfolding calls noteCalls
+end-noted {w = w} z = record { noted = λ g f. sym (ap (λ bs. noteCalls (calls-branches bs f) w) (no-branches (g .each) (g .many ∙ z) .0)) }
+
 module _ {bytes decl : List ℕ} {at left credit result bound : ℕ} (some : left ≡ 0 → ⊥) (g : ReadyAll bytes decl at left credit result bound) where
   abbrev constructor : ℕ
   constructor = byteAt bytes (at + 2)
@@ -331,4 +338,17 @@ module _ {bytes decl : List ℕ} {at left credit seen result : ℕ} {slots : Lis
           subst (Seen (byteAt bytes (at + 2) ∷ list)) (sym (es ∙ ap (λ z. bitOr seen (2 ^ z)) (o .con))) (alike-with 64 list seen (byteAt bytes (at + 2)) (branch-low (o .some) g .2) l) in
           i .judged (rest-ready e g) (byteAt bytes (at + 2) ∷ list) with
           ∙ sym (ap (spanned (g .next)) (branch-check (o .some) g slots (o .wide) list) ∙ rw (m, fine-told e g .0));
+    }
+
+    pub branch-noted : {n w v u : ℕ} → r ≡ Next n → Noted bytes decl (at + 3) result (bound + k + x) w v → NotedAll bytes decl n (left - 1) credit result bound v u
+        → NotedAll bytes decl at left credit result bound w u
+    unfolding calls branch-ready rest-ready
+    branch-noted {n} {w} {v} {u} e h i = record {
+      noted = λ g f.
+          let b : Noted bytes decl (at + 3) result (more (o .some) g) w v = subst (λ z. Noted bytes decl (at + 3) result z w v) (more-eq o) h in
+          let t = viewed (o .some) g .term in
+          let bs = viewed (o .some) g .rest in
+          i .noted (rest-ready e g) f
+          ∙ sym (ap (λ z. noteCalls (calls-branches z f) w) (viewed (o .some) g .is) ∙ noted-both (calls t f) (calls-branches bs f) w
+          ∙ ap (noteCalls (calls-branches bs f)) (sym (b .noted (branch-ready (o .some) g) f)));
     }

@@ -10,8 +10,10 @@ use lib.Dec.{eqb}
 use borrow.Author.Tests.{eq-eqb, ne-eqb}
 use Rattle.meaning.specs.declared.Slot.{Slot}
 use Rattle.meaning.specs.Marks.{findMark, rowAt}
+use Rattle.meaning.specs.Plain.{place-of}
 use Rattle.meaning.specs.Outcome.{Outcome, ok, refuse, then}
 use Rattle.meaning.specs.Ownership.{check}
+use Rattle.meaning.specs.Calls.{calls, calls-branches}
 use Rattle.standing.specs.Bytes.{markAt}
 use Rattle.standing.specs.Stands.{Stands, count}
 use Rattle.standing.specs.Stands as stands
@@ -22,7 +24,8 @@ use Rattle.checker.specs.declared.bodies.Checked.{Checked}
 use Rattle.checker.specs.declared.bodies.Checked.the-variants.{Next, Fault}
 use Rattle.checker.specs.Slots.{slotsOf, keptOf}
 use Rattle.checker.specs.Ownership.{takenOf, kindBy, thenOf}
-use Rattle.checker.specs.OwnershipReady.{spanned, Ready, Judged, Made, ReadyAll, JudgedAll}
+use Rattle.checker.specs.Noting.{noteAt, noteCalls}
+use Rattle.checker.specs.OwnershipReady.{spanned, Ready, Judged, Noted, Made, ReadyAll, JudgedAll, NotedAll}
 use Rattle.checker.proofs.ownership.Taking.{alike-none}
 use Rattle.checker.proofs.ownership.Nodes.{Goes, node}
 
@@ -40,8 +43,8 @@ spanned-fault n a b (refuse x y) e = let p : x ≡ a = cc in let q : y ≡ b = c
 -- ---- a node of a term
 
 module _ (bytes decl : List ℕ) (at result : ℕ) (slots : List Slot) (wide : length slots ≡ 32) (bound : ℕ) where
-  abbrev Follow : Ready bytes decl at result bound → Then → ℕ → List Slot → Type 0
-  Follow g f more inner = Goes (g .file) bytes decl (g .declared) (g .sort) slots wide bound (g .few) f (g .term) (g .next) more inner
+  abbrev Follow : Ready bytes decl at result bound → Then → (m more : ℕ) → List Slot → Type 0
+  Follow g f m more inner = Goes (g .file) bytes decl (g .declared) (g .sort) slots wide bound (g .few) f m (g .term) (g .next) more inner
 
   room : {m more : ℕ} (g : Ready bytes decl at result bound) → m ≡ findMark (markAt bytes at) → more ≡ bound + rowAt m .binds → more ≤ 32
   room {m} {more} g e q = rw (q, e, ← (g .here)) (node (g .file) bytes decl (g .declared) (g .sort) slots wide bound (g .few) (g .stands) .room)
@@ -57,7 +60,7 @@ module _ (bytes decl : List ℕ) (at result : ℕ) (slots : List Slot) (wide : l
         sym (ap (spanned (g .next)) (y q));
   }
 
-  view : {m more : ℕ} {t : Taken} {inner : List Slot} {f : Then} → Made bytes decl at result slots bound m t more inner f → (g : Ready bytes decl at result bound) → Follow g f more inner
+  view : {m more : ℕ} {t : Taken} {inner : List Slot} {f : Then} → Made bytes decl at result slots bound m t more inner f → (g : Ready bytes decl at result bound) → Follow g f m more inner
   view {m} {more} {t} {inner} {f} w g =
       let q : eqb (t .number) 0 ≡ true = eq-eqb (t .number) 0 (w .fine) in
       let x = node (g .file) bytes decl (g .declared) (g .sort) slots wide bound (g .few) (g .stands) .goes in
@@ -66,8 +69,8 @@ module _ (bytes decl : List ℕ) (at result : ℕ) (slots : List Slot) (wide : l
 
 module _ {bytes decl : List ℕ} {at result : ℕ} {slots : List Slot} {bound m more : ℕ} {t : Taken} {inner : List Slot} {f : Then}
     (w : Made bytes decl at result slots bound m t more inner f) where
-  abbrev viewed : (x : Then) → f ≡ x → (g : Ready bytes decl at result bound) → Follow bytes decl at result slots (w .wide) bound g x more inner
-  viewed x e g = subst (λ y. Follow bytes decl at result slots (w .wide) bound g y more inner) e (view bytes decl at result slots (w .wide) bound w g)
+  abbrev viewed : (x : Then) → f ≡ x → (g : Ready bytes decl at result bound) → Follow bytes decl at result slots (w .wide) bound g x m more inner
+  viewed x e g = subst (λ y. Follow bytes decl at result slots (w .wide) bound g y m more inner) e (view bytes decl at result slots (w .wide) bound w g)
 
   pub leaf-judged : {n : ℕ} → f ≡ Leaf n → Judged bytes decl at result slots bound (Next n)
   unfolding spanned
@@ -179,6 +182,41 @@ module _ {bytes decl : List ℕ} {at result : ℕ} {slots : List Slot} {bound m 
     judged = λ g.
         let v = viewed (Many n left credit) e g in
         j .judged (many-ready e g) [] (alike-none 64) ∙ sym (ap (spanned (g .next)) (v .5));
+  }
+
+  -- ---- the calls
+
+  -- that of the record itself
+  own : (x : ℕ) {y : ℕ} → y ≡ noteAt bytes at m x → (g : Ready bytes decl at result bound) → noteAt bytes (place-of (g .term)) m x ≡ y
+  own x q g = ap (λ p. noteAt bytes p m x) (g .here) ∙ sym q
+
+  pub leaf-noted : {n x y : ℕ} → f ≡ Leaf n → y ≡ noteAt bytes at m x → Noted bytes decl at result bound x y
+  leaf-noted {n} {x} {y} e q = record { noted = λ g c. sym (viewed (Leaf n) e g .2 c x ∙ own x q g) }
+
+  pub one-noted : {n x y z : ℕ} → f ≡ One n → y ≡ noteAt bytes at m x → Noted bytes decl n result more y z → Noted bytes decl at result bound x z
+  unfolding one-ready
+  one-noted {n} {x} {y} {z} e q h = record {
+    noted = λ g c.
+        let v = viewed (One n) e g in
+        h .noted (one-ready e g) c ∙ sym (v .5 c x ∙ ap (noteCalls (calls (v .0) c)) (own x q g));
+  }
+
+  pub two-noted : {n k x y u z : ℕ} {r : Checked} → f ≡ Two n → y ≡ noteAt bytes at m x → Judged bytes decl n result inner more r → r ≡ Next k → Noted bytes decl n result more y u
+      → Noted bytes decl k result more u z → Noted bytes decl at result bound x z
+  unfolding two-ready second-ready
+  two-noted {n} {k} {x} {y} {u} {z} {r} e q j p h i = record {
+    noted = λ g c.
+        let v = viewed (Two n) e g in
+        i .noted (second-ready e j p g) c
+        ∙ sym (v .9 c x ∙ ap (noteCalls (calls (v .1) c)) (ap (noteCalls (calls (v .0) c)) (own x q g) ∙ sym (h .noted (two-ready e g) c)));
+  }
+
+  pub many-noted : {n left credit x y z : ℕ} → f ≡ Many n left credit → y ≡ noteAt bytes at m x → NotedAll bytes decl n left credit result more y z → Noted bytes decl at result bound x z
+  unfolding many-ready
+  many-noted {n} {left} {credit} {x} {y} {z} e q h = record {
+    noted = λ g c.
+        let v = viewed (Many n left credit) e g in
+        h .noted (many-ready e g) c ∙ sym (v .6 c x ∙ ap (noteCalls (calls-branches (v .0) c)) (own x q g));
   }
 
 -- a record that takes something wrong is the answer

@@ -8,7 +8,9 @@ use Rattle.checker.proofs.bodies.+check_branches+check_term.Lts-check_b
 use Rattle.checker.proofs.bodies.check_term.Reads as check-term
 use Rattle.checker.proofs.bodies.check_term.Kinds as check-term-kinds
 use Rattle.checker.proofs.bodies.+check_branches+check_term.Lts-check_term as check-term-lts
+use Rattle.checker.proofs.bodies.note.Reads as note-reads
 use Rattle.checker.proofs.bodies.plain_row.Reads as plain-row-reads
+use Rattle.checker.proofs.bodies.plain_stands.Reads as plain-stands-reads
 use Rattle.checker.proofs.ownership.bound_kind.Reads as bound-kind-reads
 use Rattle.checker.proofs.ownership.branch_slots.Reads as branch-slots-reads
 use Rattle.checker.proofs.ownership.byte.Reads as byte-reads
@@ -23,70 +25,82 @@ use Rattle.checker.proofs.ownership.take_named.Reads as take-named-read
 use Rattle.checker.proofs.ownership.takes_many.Reads as takes-many-reads
 use Rattle.checker.proofs.reading.read_branch.Reads as read-branch-reads
 use Rattle.checker.proofs.reading.read_node.Reads as read-node-reads
-use Rattle.checker.proofs.slots.spend.Reads as spend-reads
+use Rattle.checker.proofs.slots.lowest.Reads as lowest-reads
+use Rattle.checker.proofs.slots.used.Reads as used-reads
+use Rattle.checker.proofs.slots.without_lowest.Reads as without-lowest-reads
 use Rattle.checker.proofs.bodies.+check_branches+check_term.{statement}
 use Rattle.checker.proofs.bodies.+check_branches+check_term.Tie.{close}
 use native.Mathlib.Omega.{arith}
 use borrow.Author.Needs.{needs}
 use Prim.Native.Nat.{_-_, _≤_}
-use mathlib.Core.Path.{_≡_, sym, subst, ap, _∙_}
+use mathlib.Core.Path.{_≡_, refl, sym, subst, ap, _∙_}
 use mathlib.Core.Logic.{⊎-elim}
 use lib.ListN.{length}
+use Rattle.checker.specs.declared.bodies.Plain.{Plain}
 use Rattle.checker.specs.OwnershipBits.{bitsOf}
 use Rattle.checker.specs.Slots.{spentBy, keptOf}
 use Rattle.checker.specs.Ownership.{takenOf, kindBy}
+use Rattle.checker.specs.Noting.{noteAt}
+use Rattle.checker.specs.ReadingBytes.{path}
+use Rattle.checker.specs.Bodies.{Plainly}
 use Rattle.checker.proofs.reading.Steps.{pred-is}
 use Rattle.checker.proofs.ownership.Naming.{many-taken}
-use Rattle.checker.proofs.ownership.Turns.{kept-none, kept-bound, kept-all}
+use Rattle.checker.proofs.ownership.Turns.{kept-turn, kept-none, kept-bound, kept-all}
 use Rattle.checker.proofs.bodies.Meeting.{NodeRead, node-read, branch-read}
-use Rattle.checker.proofs.bodies.Terms.{NodeMet, no-fault, met-low, fault-passed, taken-passed, names-of, NodeMade, node-made, leaf-passed, one-passable, one-passed, two-passable, second-passable, two-unread, two-faults, two-passed, many-passable, many-passed, Walked, none-walked, end-passed, branch-unread, twice-passed, Branched, branch-passable, term-unread, term-faults, branch-walked}
+use Rattle.checker.proofs.bodies.Terms.{none-plain, same-plain, NodeMet, no-fault, met-low, fault-passed, taken-passed, names-of, none-noted, NodeMade, node-made, leaf-passed, one-passable, one-passed, two-passable, second-passable, two-unread, two-faults, two-passed, many-passable, many-passed, Walked, none-walked, end-passed, branch-unread, twice-passed, Branched, branch-passable, term-unread, term-faults, branch-walked}
 
-abbrev μ-check-branches : Measures 2 check-branches-kinds.ps ℕ
+abbrev μ-check-branches : Measures 3 check-branches-kinds.ps ℕ
 μ-check-branches κs a = length (a .0 .now) - a .1 .1 .0
 
-abbrev μ-check-term : Measures 2 check-term-kinds.ps ℕ
+abbrev μ-check-term : Measures 3 check-term-kinds.ps ℕ
 μ-check-term κs a = length (a .0 .now) - a .1 .1 .0
 
-abbrev check-branches-at : ℕ → In 2 check-branches-kinds.ps
+abbrev check-branches-at : ℕ → In 3 check-branches-kinds.ps
 check-branches-at t =
     and
-    2
+    3
     check-branches-kinds.ps
-    (is 2 check-branches-kinds.ps μ-check-branches t)
+    (is 3 check-branches-kinds.ps μ-check-branches t)
     check-branches.Pre
 
-abbrev check-branches-below : ℕ → In 2 check-branches-kinds.ps
+abbrev check-branches-below : ℕ → In 3 check-branches-kinds.ps
 check-branches-below t =
     and
-    2
+    3
     check-branches-kinds.ps
-    (falls 2 check-branches-kinds.ps _<_ μ-check-branches t)
+    (falls 3 check-branches-kinds.ps _<_ μ-check-branches t)
     check-branches.Pre
 
-abbrev check-term-at : ℕ → In 2 check-term-kinds.ps
+abbrev check-term-at : ℕ → In 3 check-term-kinds.ps
 check-term-at t =
-    and 2 check-term-kinds.ps (is 2 check-term-kinds.ps μ-check-term t) check-term.Pre
+    and 3 check-term-kinds.ps (is 3 check-term-kinds.ps μ-check-term t) check-term.Pre
 
-abbrev check-term-below : ℕ → In 2 check-term-kinds.ps
+abbrev check-term-below : ℕ → In 3 check-term-kinds.ps
 check-term-below t =
-    and 2 check-term-kinds.ps (falls 2 check-term-kinds.ps _<_ μ-check-term t) check-term.Pre
+    and 3 check-term-kinds.ps (falls 3 check-term-kinds.ps _<_ μ-check-term t) check-term.Pre
 
 abbrev check-branches-Inv-loop : check-branches-lts.InvT-loop
-check-branches-Inv-loop file decl start count credit result slots p at₀ left₀ seen₀ at left seen = Walked file decl start count credit result slots p at left seen
+check-branches-Inv-loop file decl start count credit result slots p calls₀ at₀ left₀ seen₀ calls at left seen = Walked file decl start count credit result slots p calls₀ at left seen calls
 
 abbrev check-branches-μ-loop : check-branches-lts.MeasureT-loop
-check-branches-μ-loop file decl start count credit result slots p at₀ left₀ seen₀ at left seen = left
+check-branches-μ-loop file decl start count credit result slots p calls₀ at₀ left₀ seen₀ calls at left seen = left
+
+abbrev check-term-Inv-loop : check-term-lts.InvT-loop
+check-term-Inv-loop file decl start result calls inner₀ at bound nodes then more path m i j todo₀ inner todo = spentBy (bitsOf 32 todo₀) inner₀ ≡ spentBy (bitsOf 32 todo) inner
+
+abbrev check-term-μ-loop : check-term-lts.MeasureT-loop
+check-term-μ-loop file decl start result calls inner₀ at bound nodes then more path m i j todo₀ inner todo = todo
 
 abbrev check-branches-calls : ℕ → check-branches-lts.Claims
 check-branches-calls t = (read-branch-reads.Asked, read-branch-reads.Learnt, byte-reads.Asked, byte-reads.Learnt, sees-reads.Asked, sees-reads.Learnt, branch-slots-reads.Asked, branch-slots-reads.Learnt, check-term-below t, check-term.Post, seeing-reads.Asked, seeing-reads.Learnt)
 
 abbrev check-term-calls : ℕ → check-term-lts.Claims
-check-term-calls t = (plain-row-reads.Asked, plain-row-reads.Learnt, read-node-reads.Asked, read-node-reads.Learnt, mark-reads.Asked, mark-reads.Learnt, first-place-reads.Asked, first-place-reads.Learnt, slot-index-reads.Asked, slot-index-reads.Learnt, second-place-reads.Asked, second-place-reads.Learnt, take-named-reads.Asked, take-named-reads.Learnt, takes-many-reads.Asked, takes-many-reads.Learnt, take-many-reads.Asked, take-many-reads.Learnt, spend-reads.Asked, spend-reads.Learnt, bound-kind-reads.Asked, bound-kind-reads.Learnt, check-term-below t, check-term.Post, check-branches-below t, check-branches.Post)
+check-term-calls t = (plain-stands-reads.Asked, plain-stands-reads.Learnt, plain-row-reads.Asked, plain-row-reads.Learnt, read-node-reads.Asked, read-node-reads.Learnt, mark-reads.Asked, mark-reads.Learnt, first-place-reads.Asked, first-place-reads.Learnt, slot-index-reads.Asked, slot-index-reads.Learnt, second-place-reads.Asked, second-place-reads.Learnt, take-named-reads.Asked, take-named-reads.Learnt, takes-many-reads.Asked, takes-many-reads.Learnt, take-many-reads.Asked, take-many-reads.Learnt, note-reads.Asked, note-reads.Learnt, lowest-reads.Asked, lowest-reads.Learnt, used-reads.Asked, used-reads.Learnt, without-lowest-reads.Asked, without-lowest-reads.Learnt, bound-kind-reads.Asked, bound-kind-reads.Learnt, check-term-below t, check-term.Post, check-branches-below t, check-branches.Post)
 
 -- a branch whose record reads and whose constructor is new
 branched : (t : ℕ) (c : check-branches-lts.After-branch-slots (check-branches-calls t) (check-branches-at t) check-branches.Post check-branches-Inv-loop check-branches-μ-loop)
     → let a = c .before .before .before .before .before .before .before .before .before .before .before .args in
-    Branched (a .file .now) (a .decl .now) (a .start) (a .count) (a .credit) (a .result) (a .slots) (a .p) (c .before .before .before .before .before .before .before .before .before .loop .at) (c .before .before .before .before .before .before .before .before .before .loop .left) (c .before .before .before .before .before .before .before .before .before .loop .seen) (c .before .before .before .before .before .more .given .0 .0) (c .before .before .before .byte .result) (c .branch-slots .result)
+    Branched (a .file .now) (a .decl .now) (a .start) (a .count) (a .credit) (a .result) (a .slots) (a .p) (a .calls .now) (c .before .before .before .before .before .before .before .before .before .loop .at) (c .before .before .before .before .before .before .before .before .before .loop .left) (c .before .before .before .before .before .before .before .before .before .loop .seen) (c .before .before .before .before .before .before .before .before .before .loop .calls) (c .before .before .before .before .before .more .given .0 .0) (c .before .before .before .byte .result) (c .branch-slots .result)
 branched t c = record {
   walked = c .before .before .before .before .before .before .before .before .before .loop .inv;
   passable = c .before .before .before .before .before .before .before .before .before .before .before .pre .1 .0;
@@ -122,8 +136,8 @@ check-branches-byte-requires t c κs = search needs
 check-branches-sees-requires : (t : ℕ) → check-branches-lts.Need-sees-requires (check-branches-calls t) (check-branches-at t) check-branches.Post check-branches-Inv-loop check-branches-μ-loop
 check-branches-sees-requires t c κs = let x = branch-read (sym (c .before .before .before .before .read-branch .ensures) ∙ c .before .before .more .given .1) (c .before .before .before .before .before .before .loop .inv .inside) in rw (c .byte .ensures .0) (x .low)
 
-check-branches-add-t27 : (t : ℕ) → check-branches-lts.Need-add-t27 (check-branches-calls t) (check-branches-at t) check-branches.Post check-branches-Inv-loop check-branches-μ-loop
-check-branches-add-t27 t c = let x = branch-read (sym (c .before .before .before .before .before .before .read-branch .ensures) ∙ c .before .before .before .before .more .given .1) (c .before .before .before .before .before .before .before .before .loop .inv .inside) in omega (arith, x .inside)
+check-branches-add-t28 : (t : ℕ) → check-branches-lts.Need-add-t28 (check-branches-calls t) (check-branches-at t) check-branches.Post check-branches-Inv-loop check-branches-μ-loop
+check-branches-add-t28 t c = let x = branch-read (sym (c .before .before .before .before .before .before .read-branch .ensures) ∙ c .before .before .before .before .more .given .1) (c .before .before .before .before .before .before .before .before .loop .inv .inside) in omega (arith, x .inside)
 
 check-branches-returns-2 : (t : ℕ) → check-branches-lts.Need-returns-2 (check-branches-calls t) (check-branches-at t) check-branches.Post check-branches-Inv-loop check-branches-μ-loop
 check-branches-returns-2 t c = twice-passed (c .before .before .before .before .before .before .before .before .loop .inv) (c .before .before .before .before .before .before .before .before .before .before .pre .1 .0) (c .before .before .before .before .before .before .before .before .before .before .good .1 .1 .1 .1 .1 .1 .0 .1 .0 .1) (c .before .before .before .before .before .before .before .loop-test .taken) (c .before .before .byte .ensures .0) (sym (c .before .sees .ensures) ∙ c .if1 .taken)
@@ -135,210 +149,265 @@ check-branches-add-check-term : (t : ℕ) → check-branches-lts.Need-add-check-
 check-branches-add-check-term t c = let x = branch-read (sym (c .before .before .before .before .before .before .before .read-branch .ensures) ∙ c .before .before .before .before .before .more .given .1) (c .before .before .before .before .before .before .before .before .before .loop .inv .inside) in omega (arith, x .inside)
 
 check-branches-check-term-requires : (t : ℕ) → check-branches-lts.Need-check-term-requires (check-branches-calls t) (check-branches-at t) check-branches.Post check-branches-Inv-loop check-branches-μ-loop
-check-branches-check-term-requires t c κs = let y = branch-passable (branched t c) in (omega (arith, c .before .before .before .before .before .before .before .before .before .before .before .pre .0, y .0, y .1 .inside), y .1)
+check-branches-check-term-requires t c κs = let x = branch-passable (branched t (c .before)) in (omega (arith, c .before .before .before .before .before .before .before .before .before .before .before .before .pre .0, x .0, x .1 .inside), x .1)
 
 check-branches-enum-known-next : (t : ℕ) → check-branches-lts.Need-enum-known-next (check-branches-calls t) (check-branches-at t) check-branches.Post check-branches-Inv-loop check-branches-μ-loop
 check-branches-enum-known-next t c = search needs
 
 check-branches-seeing-requires : (t : ℕ) → check-branches-lts.Need-seeing-requires (check-branches-calls t) (check-branches-at t) check-branches.Post check-branches-Inv-loop check-branches-μ-loop
-check-branches-seeing-requires t c κs = let x = branch-read (sym (c .before .before .before .before .before .before .before .before .before .before .before .read-branch .ensures) ∙ c .before .before .before .before .before .before .before .before .before .more .given .1) (c .before .before .before .before .before .before .before .before .before .before .before .before .before .loop .inv .inside) in rw (c .before .before .before .before .before .before .before .byte .ensures .0) (x .low)
+check-branches-seeing-requires t c κs = let x = branch-read (sym (c .before .before .before .before .before .before .before .before .before .before .before .before .read-branch .ensures) ∙ c .before .before .before .before .before .before .before .before .before .before .more .given .1) (c .before .before .before .before .before .before .before .before .before .before .before .before .before .before .loop .inv .inside) in rw (c .before .before .before .before .before .before .before .before .byte .ensures .0) (x .low)
 
 check-branches-sub-left : (t : ℕ) → check-branches-lts.Need-sub-left (check-branches-calls t) (check-branches-at t) check-branches.Post check-branches-Inv-loop check-branches-μ-loop
-check-branches-sub-left t c = omega (arith, pred-is _ (c .before .before .before .before .before .before .before .before .before .before .before .before .before .loop-test .taken))
+check-branches-sub-left t c = omega (arith, pred-is _ (c .before .before .before .before .before .before .before .before .before .before .before .before .before .before .loop-test .taken))
 
 check-branches-loop-less : (t : ℕ) → check-branches-lts.Need-loop-less (check-branches-calls t) (check-branches-at t) check-branches.Post check-branches-Inv-loop check-branches-μ-loop
-check-branches-loop-less t c = omega (arith, pred-is _ (c .before .before .before .before .before .before .before .before .before .before .before .before .before .loop-test .taken))
+check-branches-loop-less t c = omega (arith, pred-is _ (c .before .before .before .before .before .before .before .before .before .before .before .before .before .before .loop-test .taken))
 
 check-branches-loop-again : (t : ℕ) → check-branches-lts.Need-loop-again (check-branches-calls t) (check-branches-at t) check-branches.Post check-branches-Inv-loop check-branches-μ-loop
-check-branches-loop-again t c = branch-walked (branched t (c .before .before .before .before .before)) (c .before .before .before .before .check-term .ensures) (c .before .before .next .given .1) (c .seeing .ensures)
+check-branches-loop-again t c = branch-walked (branched t (c .before .before .before .before .before .before)) (c .before .before .before .before .check-term .ensures) (c .before .before .next .given .1) (c .seeing .ensures)
 
 check-branches-enum-known-number-2 : (t : ℕ) → check-branches-lts.Need-enum-known-number-2 (check-branches-calls t) (check-branches-at t) check-branches.Post check-branches-Inv-loop check-branches-μ-loop
 check-branches-enum-known-number-2 t c = search needs
 
 check-branches-returns-3 : (t : ℕ) → check-branches-lts.Need-returns-3 (check-branches-calls t) (check-branches-at t) check-branches.Post check-branches-Inv-loop check-branches-μ-loop
-check-branches-returns-3 t c = term-unread (branched t (c .before .before .before .before)) (c .before .before .before .check-term .ensures) (c .before .number2 .given .1)
+check-branches-returns-3 t c = term-unread (branched t (c .before .before .before .before .before)) (c .before .before .before .check-term .ensures) (c .before .number2 .given .1)
 
 check-branches-enum-known-number-3 : (t : ℕ) → check-branches-lts.Need-enum-known-number-3 (check-branches-calls t) (check-branches-at t) check-branches.Post check-branches-Inv-loop check-branches-μ-loop
 check-branches-enum-known-number-3 t c = search needs
 
 check-branches-returns-4 : (t : ℕ) → check-branches-lts.Need-returns-4 (check-branches-calls t) (check-branches-at t) check-branches.Post check-branches-Inv-loop check-branches-μ-loop
-check-branches-returns-4 t c = term-faults (branched t (c .before .before .before .before)) (c .before .before .before .check-term .ensures) (c .before .number3 .given .1)
+check-branches-returns-4 t c = term-faults (branched t (c .before .before .before .before .before)) (c .before .before .before .check-term .ensures) (c .before .number3 .given .1)
 
 check-branches-returns-5 : (t : ℕ) → check-branches-lts.Need-returns-5 (check-branches-calls t) (check-branches-at t) check-branches.Post check-branches-Inv-loop check-branches-μ-loop
 check-branches-returns-5 t c = end-passed (c .before .loop .inv) (c .before .before .before .pre .1 .0) (c .loop-test .left)
 
--- the node behind the plain ones
-node-met : (t : ℕ) (c : check-term-lts.After-read-node (check-term-calls t) (check-term-at t) check-term.Post)
-    → let a = c .before .before .before .before .args in
-    NodeMet (a .file .now) (a .decl .now) (a .start) (a .slots) (a .p) (c .before .before .plain-row .result) (c .read-node .result)
-node-met t c = record { passable = c .before .before .before .before .pre .1; row = c .before .before .plain-row .ensures; node = c .read-node .ensures }
+-- the row of plain nodes, which may have none
+abbrev row-of : (t : ℕ) (c : check-term-lts.Joined1 (check-term-calls t) (check-term-at t) check-term.Post check-term-Inv-loop check-term-μ-loop)
+    → Plain
+row-of t c = record { at = c .if1 .at; slots = c .if1 .inner; path = path (c .if1 .bound) (c .if1 .nodes) }
 
--- that node, where it reads
-node-reads : (t : ℕ) (c : check-term-lts.At-match-keys2 (check-term-calls t) (check-term-at t) check-term.Post)
-    → let a = c .before .before .before .before .before .before .args in
-    let r = c .before .before .before .before .plain-row .result in
-    NodeRead (a .file .now) (a .decl .now) (r .at) (r .path) (c .before .before .read-node .result)
-node-reads t c = node-read (c .before .before .read-node .ensures) (c .before .before .before .before .plain-row .ensures .inside) (no-fault (c .before .before .read-node .result .then) (c .match .keys2))
-
--- what the node takes
-taken : (t : ℕ) (c : check-term-lts.Joined1 (check-term-calls t) (check-term-at t) check-term.Post)
-    → let a = c .before .before .before .before .before .before .before .before .before .before .before .before .before .before .before .before .before .before .args in
-    let r = c .before .before .before .before .before .before .before .before .before .before .before .before .before .before .before .before .plain-row .result in
-    c .if1 .t ≡ takenOf (a .file .now) (a .decl .now) (r .at) (r .slots) (r .path .slots) (c .before .before .before .before .before .before .before .before .before .before .before .mark .result) (a .result)
-taken t c =
-    let a = c .before .before .before .before .before .before .before .before .before .before .before .before .before .before .before .before .before .before .args in
-    let r = c .before .before .before .before .before .before .before .before .before .before .before .before .before .before .before .before .plain-row .result in
-    ⊎-elim (λ w. w .2 ∙ w .1 .ensures ∙ many-taken (a .file .now) (a .decl .now) (r .at) (r .slots) (r .path .slots) (c .before .before .before .before .before .before .before .before .before .before .before .mark .result) (a .result) (sym (c .before .takes-many .ensures) ∙ w .0 .taken))
-    (λ w. w .1 ∙ c .before .before .take-named .ensures ∙ names-of (a .file .now) (a .decl .now) (r .at) (r .slots) (r .path .slots) (c .before .before .before .before .before .before .before .before .before .before .before .before .before .before .before .before .plain-row .ensures .few-slots) (a .result) (c .before .before .before .before .before .before .before .before .before .before .before .mark .result) (sym (c .before .takes-many .ensures) ∙ w .0 .left)
-    (c .before .before .before .before .before .before .before .before .before .before .first-place .result) (c .before .before .before .before .before .before .before .before .second-place .result) (c .before .before .before .before .before .before .before .before .before .slot-index .result) (c .before .before .before .before .before .before .before .slot-index2 .result) (c .before .before .before .before .first-place2 .result) (c .before .before .before .second-place2 .result) (c .before .before .before .before .before .before .before .before .before .before .first-place .ensures) (c .before .before .before .before .before .before .before .before .second-place .ensures) (c .before .before .before .before .first-place2 .ensures) (c .before .before .before .second-place2 .ensures) (c .before .before .before .before .before .before .before .before .before .slot-index .ensures .0) (c .before .before .before .before .before .before .before .slot-index2 .ensures .0))
+row-met : (t : ℕ) (c : check-term-lts.Joined1 (check-term-calls t) (check-term-at t) check-term.Post check-term-Inv-loop check-term-μ-loop)
+    → let a = c .before .before .before .args in
+    Plainly (a .file .now) (a .start) (a .slots) (a .p) (row-of t c)
+row-met t c = ⊎-elim (λ w. same-plain (w .1 .ensures) (w .3) (w .4) (w .5) (w .6))
+    (λ w. same-plain (none-plain (c .before .before .before .pre .1) (c .before .before .before .good .1 .1 .1 .1 .0 .1 .0 .1)) (w .1) (w .2) (w .3) (w .4))
     (c .if1 .came)
 
+-- the node behind the plain ones
+node-met : (t : ℕ) (c : check-term-lts.After-read-node (check-term-calls t) (check-term-at t) check-term.Post check-term-Inv-loop check-term-μ-loop)
+    → let a = c .before .before .before .before .args in
+    NodeMet (a .file .now) (a .decl .now) (a .start) (a .slots) (a .p) (row-of t (c .before)) (c .read-node .result)
+node-met t c = record { passable = c .before .before .before .before .pre .1; row = row-met t (c .before); node = c .read-node .ensures }
+
+-- that node, where it reads
+node-reads : (t : ℕ) (c : check-term-lts.At-match-keys2 (check-term-calls t) (check-term-at t) check-term.Post check-term-Inv-loop check-term-μ-loop)
+    → let a = c .before .before .before .before .before .args in
+    let r = row-of t (c .before .before) in
+    NodeRead (a .file .now) (a .decl .now) (r .at) (r .path) (c .before .read-node .result)
+node-reads t c = node-read (c .before .read-node .ensures) (row-met t (c .before .before) .inside) (no-fault (c .before .read-node .result .then) (c .match .keys2))
+
+-- what the node takes
+taken : (t : ℕ) (c : check-term-lts.Joined2 (check-term-calls t) (check-term-at t) check-term.Post check-term-Inv-loop check-term-μ-loop)
+    → let a = c .before .before .before .before .before .before .before .before .before .before .before .before .before .before .before .before .before .args in
+    let r = row-of t (c .before .before .before .before .before .before .before .before .before .before .before .before .before .before) in
+    c .if2 .t ≡ takenOf (a .file .now) (a .decl .now) (r .at) (r .slots) (r .path .slots) (c .before .before .before .before .before .before .before .before .before .before .before .mark .result) (a .result)
+taken t c =
+    let a = c .before .before .before .before .before .before .before .before .before .before .before .before .before .before .before .before .before .args in
+    let r = row-of t (c .before .before .before .before .before .before .before .before .before .before .before .before .before .before) in
+    ⊎-elim (λ w. w .5 ∙ w .1 .ensures ∙ many-taken (a .file .now) (a .decl .now) (r .at) (r .slots) (r .path .slots) (c .before .before .before .before .before .before .before .before .before .before .before .mark .result) (a .result) (sym (c .before .takes-many .ensures) ∙ w .0 .taken))
+    (λ w. w .2 ∙ c .before .before .take-named .ensures ∙ names-of (a .file .now) (a .decl .now) (r .at) (r .slots) (r .path .slots) (row-met t (c .before .before .before .before .before .before .before .before .before .before .before .before .before .before) .few-slots) (a .result) (c .before .before .before .before .before .before .before .before .before .before .before .mark .result) (sym (c .before .takes-many .ensures) ∙ w .0 .left)
+    (c .before .before .before .before .before .before .before .before .before .before .first-place .result) (c .before .before .before .before .before .before .before .before .second-place .result) (c .before .before .before .before .before .before .before .before .before .slot-index .result) (c .before .before .before .before .before .before .before .slot-index2 .result) (c .before .before .before .before .first-place2 .result) (c .before .before .before .second-place2 .result) (c .before .before .before .before .before .before .before .before .before .before .first-place .ensures) (c .before .before .before .before .before .before .before .before .second-place .ensures) (c .before .before .before .before .first-place2 .ensures) (c .before .before .before .second-place2 .ensures) (c .before .before .before .before .before .before .before .before .before .slot-index .ensures .0) (c .before .before .before .before .before .before .before .slot-index2 .ensures .0))
+    (c .if2 .came)
+
+-- and what it calls
+noted : (t : ℕ) (c : check-term-lts.Joined2 (check-term-calls t) (check-term-at t) check-term.Post check-term-Inv-loop check-term-μ-loop)
+    → let a = c .before .before .before .before .before .before .before .before .before .before .before .before .before .before .before .before .before .args in
+    c .if2 .calls ≡ noteAt (a .file .now) (c .before .before .before .before .before .before .before .before .before .before .before .before .before .before .if1 .at) (c .before .before .before .before .before .before .before .before .before .before .before .mark .result) (a .calls .now)
+noted t c =
+    let a = c .before .before .before .before .before .before .before .before .before .before .before .before .before .before .before .before .before .args in
+    ⊎-elim {C = c .if2 .calls ≡ noteAt (a .file .now) (c .before .before .before .before .before .before .before .before .before .before .before .before .before .before .if1 .at) (c .before .before .before .before .before .before .before .before .before .before .before .mark .result) (a .calls .now)} (λ w. w .4 ∙ w .3 .ensures)
+    (λ w. w .1 ∙ sym (none-noted (a .file .now) (c .before .before .before .before .before .before .before .before .before .before .before .before .before .before .if1 .at) (c .before .before .before .before .before .before .before .before .before .before .before .mark .result) (a .calls .now) (sym (c .before .takes-many .ensures) ∙ w .0 .left)))
+    (c .if2 .came)
+
 -- what the node leaves and binds
-made : (t : ℕ) (c : check-term-lts.Joined4 (check-term-calls t) (check-term-at t) check-term.Post)
-    → let a = c .before .before .before .before .before .before .before .before .before .before .before .before .before .before .before .before .before .before .before .before .before .before .before .before .args in
-    NodeMade (a .file .now) (a .decl .now) (a .start) (a .result) (a .slots) (a .p) (c .before .before .before .before .before .before .before .before .before .before .before .before .before .before .before .before .before .before .before .before .before .before .plain-row .result) (c .before .before .before .before .before .before .before .before .before .before .before .before .before .before .before .before .before .before .before .before .read-node .result) (c .if4 .inner)
+made : (t : ℕ) (c : check-term-lts.Joined4 (check-term-calls t) (check-term-at t) check-term.Post check-term-Inv-loop check-term-μ-loop)
+    → let a = c .before .before .before .before .before .before .before .before .before .before .before .before .before .before .before .before .before .before .before .before .before .before .args in
+    NodeMade (a .file .now) (a .decl .now) (a .start) (a .result) (a .slots) (a .p) (row-of t (c .before .before .before .before .before .before .before .before .before .before .before .before .before .before .before .before .before .before .before)) (c .before .before .before .before .before .before .before .before .before .before .before .before .before .before .before .before .before .before .read-node .result) (c .if4 .inner) (a .calls .now) (c .before .before .before .before .before .if2 .calls)
 made t c =
-    let a = c .before .before .before .before .before .before .before .before .before .before .before .before .before .before .before .before .before .before .before .before .before .before .before .before .args in
-    let r = c .before .before .before .before .before .before .before .before .before .before .before .before .before .before .before .before .before .before .before .before .before .before .plain-row .result in
-    let more = c .before .before .before .before .before .before .before .before .before .before .before .before .before .before .before .before .before .before .before .before .read-node .result .path .slots in
-    let gone = c .before .before .before .before .before .before .if1 .t .spent in
-    let spent : spentBy (bitsOf 32 gone) (r .slots) ≡ c .before .before .if3 .inner =
-    ⊎-elim (λ w. sym (w .2 ∙ w .1 .ensures)) (λ w. kept-none (r .slots) gone (w .0 .left) ∙ sym (w .1)) (c .before .before .if3 .came) in
-    let kept : c .if4 .inner ≡ keptOf (r .slots) gone (r .path .slots) more (kindBy (a .file .now) (a .decl .now) (r .at) (c .before .before .before .before .before .before .before .before .before .before .before .before .before .before .before .before .before .mark .result)) (r .at) =
-    ⊎-elim (λ w. w .2 ∙ kept-bound (r .slots) (c .before .before .if3 .inner) gone (r .path .slots) more (w .1 .result) (r .at) spent (w .0 .taken)
+    let a = c .before .before .before .before .before .before .before .before .before .before .before .before .before .before .before .before .before .before .before .before .before .before .args in
+    let r = row-of t (c .before .before .before .before .before .before .before .before .before .before .before .before .before .before .before .before .before .before .before) in
+    let more = c .before .before .before .before .before .before .before .before .before .before .before .before .before .before .before .before .before .before .read-node .result .path .slots in
+    let gone = c .before .before .before .before .before .if2 .t .spent in
+    let spent : spentBy (bitsOf 32 gone) (r .slots) ≡ c .before .before .loop .inner = c .before .before .loop .inv ∙ kept-none (c .before .before .loop .inner) (c .before .before .loop .todo) (c .before .loop-test .left) in
+    let kind = kindBy (a .file .now) (a .decl .now) (r .at) (c .before .before .before .before .before .before .before .before .before .before .before .before .before .before .before .before .mark .result) in
+    let kept : c .if4 .inner ≡ keptOf (r .slots) gone (r .path .slots) more kind (r .at) =
+    ⊎-elim {C = c .if4 .inner ≡ keptOf (r .slots) gone (r .path .slots) more kind (r .at)} (λ w. w .4 ∙ kept-bound (r .slots) (c .before .before .loop .inner) gone (r .path .slots) more (w .1 .result) (r .at) spent (w .0 .taken)
     ∙ ap (λ x. keptOf (r .slots) gone (r .path .slots) more x (r .at)) (w .1 .ensures))
-    (λ w. w .1 ∙ kept-all (r .slots) (c .before .before .if3 .inner) gone (r .path .slots) more (kindBy (a .file .now) (a .decl .now) (r .at) (c .before .before .before .before .before .before .before .before .before .before .before .before .before .before .before .before .before .mark .result)) (r .at) spent (w .0 .left))
+    (λ w. w .1 ∙ kept-all (r .slots) (c .before .before .loop .inner) gone (r .path .slots) more kind (r .at) spent (w .0 .left))
     (c .if4 .came) in
-    node-made (node-met t (c .before .before .before .before .before .before .before .before .before .before .before .before .before .before .before .before .before .before .before .before)) (node-reads t (c .before .before .before .before .before .before .before .before .before .before .before .before .before .before .before .before .before .before)) (c .before .before .before .before .before .before .before .before .before .before .before .before .before .before .before .before .before .mark .ensures) (taken t (c .before .before .before .before .before .before)) (c .before .before .before .before .if2 .left) kept
+    node-made (node-met t (c .before .before .before .before .before .before .before .before .before .before .before .before .before .before .before .before .before .before)) (node-reads t (c .before .before .before .before .before .before .before .before .before .before .before .before .before .before .before .before .before)) (c .before .before .before .before .before .before .before .before .before .before .before .before .before .before .before .before .mark .ensures) (taken t (c .before .before .before .before .before)) (c .before .before .before .if3 .left) kept (noted t (c .before .before .before .before .before))
 
-check-term-plain-row-requires : (t : ℕ) → check-term-lts.Need-plain-row-requires (check-term-calls t) (check-term-at t) check-term.Post
-check-term-plain-row-requires t c κs = let k = c .before .pre .1 in (k .small, k .inside, k .slots, k .nodes)
+check-term-plain-stands-requires : (t : ℕ) → check-term-lts.Need-plain-stands-requires (check-term-calls t) (check-term-at t) check-term.Post check-term-Inv-loop check-term-μ-loop
+check-term-plain-stands-requires t c κs = let k = c .before .pre .1 in omega (arith, k .small, k .inside)
 
-check-term-read-node-requires : (t : ℕ) → check-term-lts.Need-read-node-requires (check-term-calls t) (check-term-at t) check-term.Post
-check-term-read-node-requires t c κs = let w = c .before .plain-row .ensures in (w .inside, w .few-slots, w .few-nodes)
+check-term-plain-row-requires : (t : ℕ) → check-term-lts.Need-plain-row-requires (check-term-calls t) (check-term-at t) check-term.Post check-term-Inv-loop check-term-μ-loop
+check-term-plain-row-requires t c κs = let k = c .before .before .before .pre .1 in (k .small, k .inside, k .slots, k .nodes)
 
-check-term-enum-known-then : (t : ℕ) → check-term-lts.Need-enum-known-then (check-term-calls t) (check-term-at t) check-term.Post
+check-term-read-node-requires : (t : ℕ) → check-term-lts.Need-read-node-requires (check-term-calls t) (check-term-at t) check-term.Post check-term-Inv-loop check-term-μ-loop
+check-term-read-node-requires t c κs = let w = row-met t c in (w .inside, w .few-slots, w .few-nodes)
+
+check-term-enum-known-then : (t : ℕ) → check-term-lts.Need-enum-known-then (check-term-calls t) (check-term-at t) check-term.Post check-term-Inv-loop check-term-μ-loop
 check-term-enum-known-then t c = search needs
 
-check-term-returns : (t : ℕ) → check-term-lts.Need-returns (check-term-calls t) (check-term-at t) check-term.Post
-check-term-returns t c = fault-passed (node-met t (c .before .before .before .before)) (c .before .then .given .1)
+check-term-returns : (t : ℕ) → check-term-lts.Need-returns (check-term-calls t) (check-term-at t) check-term.Post check-term-Inv-loop check-term-μ-loop
+check-term-returns t c = fault-passed (node-met t (c .before .before .before)) (c .before .then .given .1)
 
-check-term-mark-requires : (t : ℕ) → check-term-lts.Need-mark-requires (check-term-calls t) (check-term-at t) check-term.Post
-check-term-mark-requires t c κs = let l = met-low (node-met t (c .before .before)) in let w = node-reads t c in (l .0, omega (arith, w .inside))
+check-term-mark-requires : (t : ℕ) → check-term-lts.Need-mark-requires (check-term-calls t) (check-term-at t) check-term.Post check-term-Inv-loop check-term-μ-loop
+check-term-mark-requires t c κs = let l = met-low (node-met t (c .before)) in let w = node-reads t c in (l .0, omega (arith, w .inside))
 
-check-term-first-place-requires : (t : ℕ) → check-term-lts.Need-first-place-requires (check-term-calls t) (check-term-at t) check-term.Post
-check-term-first-place-requires t c κs = let l = met-low (node-met t (c .before .before .before)) in l .0
+check-term-first-place-requires : (t : ℕ) → check-term-lts.Need-first-place-requires (check-term-calls t) (check-term-at t) check-term.Post check-term-Inv-loop check-term-μ-loop
+check-term-first-place-requires t c κs = let l = met-low (node-met t (c .before .before)) in l .0
 
-check-term-slot-index-requires : (t : ℕ) → check-term-lts.Need-slot-index-requires (check-term-calls t) (check-term-at t) check-term.Post
+check-term-slot-index-requires : (t : ℕ) → check-term-lts.Need-slot-index-requires (check-term-calls t) (check-term-at t) check-term.Post check-term-Inv-loop check-term-μ-loop
 check-term-slot-index-requires t c κs = let w = node-reads t (c .before .before) in rw (c .first-place .ensures, c .before .mark .ensures) (w .first)
 
-check-term-second-place-requires : (t : ℕ) → check-term-lts.Need-second-place-requires (check-term-calls t) (check-term-at t) check-term.Post
-check-term-second-place-requires t c κs = let l = met-low (node-met t (c .before .before .before .before .before)) in l .0
+check-term-second-place-requires : (t : ℕ) → check-term-lts.Need-second-place-requires (check-term-calls t) (check-term-at t) check-term.Post check-term-Inv-loop check-term-μ-loop
+check-term-second-place-requires t c κs = let l = met-low (node-met t (c .before .before .before .before)) in l .0
 
-check-term-slot-index-requires-2 : (t : ℕ) → check-term-lts.Need-slot-index-requires-2 (check-term-calls t) (check-term-at t) check-term.Post
+check-term-slot-index-requires-2 : (t : ℕ) → check-term-lts.Need-slot-index-requires-2 (check-term-calls t) (check-term-at t) check-term.Post check-term-Inv-loop check-term-μ-loop
 check-term-slot-index-requires-2 t c κs = let w = node-reads t (c .before .before .before .before) in rw (c .second-place .ensures, c .before .before .before .mark .ensures) (w .second)
 
-check-term-mul-one : (t : ℕ) → check-term-lts.Need-mul-one (check-term-calls t) (check-term-at t) check-term.Post
+check-term-mul-one : (t : ℕ) → check-term-lts.Need-mul-one (check-term-calls t) (check-term-at t) check-term.Post check-term-Inv-loop check-term-μ-loop
 check-term-mul-one t c = omega (arith, c .before .before .slot-index .ensures .1)
 
-check-term-array-copy-out-one : (t : ℕ) → check-term-lts.Need-array-copy-out-one (check-term-calls t) (check-term-at t) check-term.Post
+check-term-array-copy-out-one : (t : ℕ) → check-term-lts.Need-array-copy-out-one (check-term-calls t) (check-term-at t) check-term.Post check-term-Inv-loop check-term-μ-loop
 check-term-array-copy-out-one t c = omega (arith, c .before .before .slot-index .ensures .1)
 
-check-term-mul-two : (t : ℕ) → check-term-lts.Need-mul-two (check-term-calls t) (check-term-at t) check-term.Post
+check-term-mul-two : (t : ℕ) → check-term-lts.Need-mul-two (check-term-calls t) (check-term-at t) check-term.Post check-term-Inv-loop check-term-μ-loop
 check-term-mul-two t c = omega (arith, c .before .slot-index2 .ensures .1)
 
-check-term-array-copy-out-two : (t : ℕ) → check-term-lts.Need-array-copy-out-two (check-term-calls t) (check-term-at t) check-term.Post
+check-term-array-copy-out-two : (t : ℕ) → check-term-lts.Need-array-copy-out-two (check-term-calls t) (check-term-at t) check-term.Post check-term-Inv-loop check-term-μ-loop
 check-term-array-copy-out-two t c = omega (arith, c .before .slot-index2 .ensures .1)
 
-check-term-first-place-requires-2 : (t : ℕ) → check-term-lts.Need-first-place-requires-2 (check-term-calls t) (check-term-at t) check-term.Post
-check-term-first-place-requires-2 t c κs = let l = met-low (node-met t (c .before .before .before .before .before .before .before .before .before)) in l .0
+check-term-first-place-requires-2 : (t : ℕ) → check-term-lts.Need-first-place-requires-2 (check-term-calls t) (check-term-at t) check-term.Post check-term-Inv-loop check-term-μ-loop
+check-term-first-place-requires-2 t c κs = let l = met-low (node-met t (c .before .before .before .before .before .before .before .before)) in l .0
 
-check-term-second-place-requires-2 : (t : ℕ) → check-term-lts.Need-second-place-requires-2 (check-term-calls t) (check-term-at t) check-term.Post
-check-term-second-place-requires-2 t c κs = let l = met-low (node-met t (c .before .before .before .before .before .before .before .before .before .before)) in l .0
+check-term-second-place-requires-2 : (t : ℕ) → check-term-lts.Need-second-place-requires-2 (check-term-calls t) (check-term-at t) check-term.Post check-term-Inv-loop check-term-μ-loop
+check-term-second-place-requires-2 t c κs = let l = met-low (node-met t (c .before .before .before .before .before .before .before .before .before)) in l .0
 
-check-term-take-named-requires : (t : ℕ) → check-term-lts.Need-take-named-requires (check-term-calls t) (check-term-at t) check-term.Post
-check-term-take-named-requires t c κs = let l = met-low (node-met t (c .before .before .before .before .before .before .before .before .before .before .before)) in let w = node-reads t (c .before .before .before .before .before .before .before .before .before) in (l .1, rw (c .before .first-place2 .ensures, c .before .before .before .before .before .before .before .before .mark .ensures) (w .first), rw (c .second-place2 .ensures, c .before .before .before .before .before .before .before .before .mark .ensures) (w .second))
+check-term-take-named-requires : (t : ℕ) → check-term-lts.Need-take-named-requires (check-term-calls t) (check-term-at t) check-term.Post check-term-Inv-loop check-term-μ-loop
+check-term-take-named-requires t c κs = let l = met-low (node-met t (c .before .before .before .before .before .before .before .before .before .before)) in let w = node-reads t (c .before .before .before .before .before .before .before .before .before) in (l .1, rw (c .before .first-place2 .ensures, c .before .before .before .before .before .before .before .before .mark .ensures) (w .first), rw (c .second-place2 .ensures, c .before .before .before .before .before .before .before .before .mark .ensures) (w .second))
 
-check-term-takes-many-requires : (t : ℕ) → check-term-lts.Need-takes-many-requires (check-term-calls t) (check-term-at t) check-term.Post
+check-term-takes-many-requires : (t : ℕ) → check-term-lts.Need-takes-many-requires (check-term-calls t) (check-term-at t) check-term.Post check-term-Inv-loop check-term-μ-loop
 check-term-takes-many-requires t c κs = search needs
 
-check-term-take-many-requires : (t : ℕ) → check-term-lts.Need-take-many-requires (check-term-calls t) (check-term-at t) check-term.Post
-check-term-take-many-requires t c κs = let l = met-low (node-met t (c .before .before .before .before .before .before .before .before .before .before .before .before .before .before)) in (l .1, l .0, l .2)
+check-term-take-many-requires : (t : ℕ) → check-term-lts.Need-take-many-requires (check-term-calls t) (check-term-at t) check-term.Post check-term-Inv-loop check-term-μ-loop
+check-term-take-many-requires t c κs = let l = met-low (node-met t (c .before .before .before .before .before .before .before .before .before .before .before .before .before)) in (l .1, l .0, l .2)
 
-check-term-returns-2 : (t : ℕ) → check-term-lts.Need-returns-2 (check-term-calls t) (check-term-at t) check-term.Post
-check-term-returns-2 t c = taken-passed (node-met t (c .before .before .before .before .before .before .before .before .before .before .before .before .before .before .before .before)) (c .before .before .before .before .before .before .before .before .before .before .before .before .before .mark .ensures) (taken t (c .before .before)) (c .if2 .taken)
+check-term-note-requires : (t : ℕ) → check-term-lts.Need-note-requires (check-term-calls t) (check-term-at t) check-term.Post check-term-Inv-loop check-term-μ-loop
+check-term-note-requires t c κs = let l = met-low (node-met t (c .before .before .before .before .before .before .before .before .before .before .before .before .before .before .before)) in l .0
 
-check-term-spend-requires : (t : ℕ) → check-term-lts.Need-spend-requires (check-term-calls t) (check-term-at t) check-term.Post
-check-term-spend-requires t c κs = search needs
+check-term-returns-2 : (t : ℕ) → check-term-lts.Need-returns-2 (check-term-calls t) (check-term-at t) check-term.Post check-term-Inv-loop check-term-μ-loop
+check-term-returns-2 t c = taken-passed (node-met t (c .before .before .before .before .before .before .before .before .before .before .before .before .before .before .before)) (c .before .before .before .before .before .before .before .before .before .before .before .before .before .mark .ensures) (taken t (c .before .before)) (c .if3 .taken)
 
-check-term-bound-kind-requires : (t : ℕ) → check-term-lts.Need-bound-kind-requires (check-term-calls t) (check-term-at t) check-term.Post
-check-term-bound-kind-requires t c κs = let l = met-low (node-met t (c .before .before .before .before .before .before .before .before .before .before .before .before .before .before .before .before .before .before .before .before)) in (l .0, l .2)
+check-term-loop-holds : (t : ℕ) → check-term-lts.Need-loop-holds (check-term-calls t) (check-term-at t) check-term.Post check-term-Inv-loop check-term-μ-loop
+check-term-loop-holds t c = refl
 
-check-term-cast-t50 : (t : ℕ) → check-term-lts.Need-cast-t50 (check-term-calls t) (check-term-at t) check-term.Post
-check-term-cast-t50 t c = let l = met-low (node-met t (c .before .before .before .before .before .before .before .before .before .before .before .before .before .before .before .before .before .before .before .before .before)) in omega (arith, l .0)
+check-term-lowest-requires : (t : ℕ) → check-term-lts.Need-lowest-requires (check-term-calls t) (check-term-at t) check-term.Post check-term-Inv-loop check-term-μ-loop
+check-term-lowest-requires t c κs = omega (arith, pred-is _ (c .loop-test .taken))
 
-check-term-mul-inner : (t : ℕ) → check-term-lts.Need-mul-inner (check-term-calls t) (check-term-at t) check-term.Post
-check-term-mul-inner t c = let l = met-low (node-met t (c .before .before .before .before .before .before .before .before .before .before .before .before .before .before .before .before .before .before .before .before .before)) in omega (arith, l .1)
+check-term-mul-slot : (t : ℕ) → check-term-lts.Need-mul-slot (check-term-calls t) (check-term-at t) check-term.Post check-term-Inv-loop check-term-μ-loop
+check-term-mul-slot t c = omega (arith, c .lowest .ensures .1)
 
-check-term-array-set-from-inner : (t : ℕ) → check-term-lts.Need-array-set-from-inner (check-term-calls t) (check-term-at t) check-term.Post
-check-term-array-set-from-inner t c = let w = node-reads t (c .before .before .before .before .before .before .before .before .before .before .before .before .before .before .before .before .before .before .before) in omega (arith, c .before .if4 .taken, w .fits)
+check-term-array-copy-out-slot : (t : ℕ) → check-term-lts.Need-array-copy-out-slot (check-term-calls t) (check-term-at t) check-term.Post check-term-Inv-loop check-term-μ-loop
+check-term-array-copy-out-slot t c = omega (arith, c .lowest .ensures .1)
 
-check-term-enum-known-then-2 : (t : ℕ) → check-term-lts.Need-enum-known-then-2 (check-term-calls t) (check-term-at t) check-term.Post
+check-term-used-requires : (t : ℕ) → check-term-lts.Need-used-requires (check-term-calls t) (check-term-at t) check-term.Post check-term-Inv-loop check-term-μ-loop
+check-term-used-requires t c κs = search needs
+
+check-term-mul-inner : (t : ℕ) → check-term-lts.Need-mul-inner (check-term-calls t) (check-term-at t) check-term.Post check-term-Inv-loop check-term-μ-loop
+check-term-mul-inner t c = omega (arith, c .before .before .lowest .ensures .1)
+
+check-term-array-set-from-inner : (t : ℕ) → check-term-lts.Need-array-set-from-inner (check-term-calls t) (check-term-at t) check-term.Post check-term-Inv-loop check-term-μ-loop
+check-term-array-set-from-inner t c = omega (arith, c .before .before .lowest .ensures .1)
+
+check-term-without-lowest-requires : (t : ℕ) → check-term-lts.Need-without-lowest-requires (check-term-calls t) (check-term-at t) check-term.Post check-term-Inv-loop check-term-μ-loop
+check-term-without-lowest-requires t c κs = omega (arith, pred-is _ (c .before .before .before .loop-test .taken))
+
+check-term-loop-less : (t : ℕ) → check-term-lts.Need-loop-less (check-term-calls t) (check-term-at t) check-term.Post check-term-Inv-loop check-term-μ-loop
+check-term-loop-less t c = omega (arith, c .without-lowest .ensures .1)
+
+check-term-loop-again : (t : ℕ) → check-term-lts.Need-loop-again (check-term-calls t) (check-term-at t) check-term.Post check-term-Inv-loop check-term-μ-loop
+check-term-loop-again t c = c .before .before .before .before .before .loop .inv ∙ kept-turn _ _ _ _ _ (c .before .before .before .lowest .ensures .0) (c .before .before .before .lowest .ensures .1) (c .without-lowest .ensures .0) (c .before .used .ensures)
+
+check-term-bound-kind-requires : (t : ℕ) → check-term-lts.Need-bound-kind-requires (check-term-calls t) (check-term-at t) check-term.Post check-term-Inv-loop check-term-μ-loop
+check-term-bound-kind-requires t c κs = let l = met-low (node-met t (c .before .before .before .before .before .before .before .before .before .before .before .before .before .before .before .before .before .before)) in (l .0, l .2)
+
+check-term-cast-t67 : (t : ℕ) → check-term-lts.Need-cast-t67 (check-term-calls t) (check-term-at t) check-term.Post check-term-Inv-loop check-term-μ-loop
+check-term-cast-t67 t c = let l = met-low (node-met t (c .before .before .before .before .before .before .before .before .before .before .before .before .before .before .before .before .before .before .before .before)) in omega (arith, l .0)
+
+check-term-mul-inner-2 : (t : ℕ) → check-term-lts.Need-mul-inner-2 (check-term-calls t) (check-term-at t) check-term.Post check-term-Inv-loop check-term-μ-loop
+check-term-mul-inner-2 t c = let l = met-low (node-met t (c .before .before .before .before .before .before .before .before .before .before .before .before .before .before .before .before .before .before .before .before .before)) in omega (arith, l .1)
+
+check-term-array-set-from-inner-2 : (t : ℕ) → check-term-lts.Need-array-set-from-inner-2 (check-term-calls t) (check-term-at t) check-term.Post check-term-Inv-loop check-term-μ-loop
+check-term-array-set-from-inner-2 t c = let w = node-reads t (c .before .before .before .before .before .before .before .before .before .before .before .before .before .before .before .before .before .before .before .before) in omega (arith, c .before .before .before .if4 .taken, w .fits)
+
+check-term-enum-known-then-2 : (t : ℕ) → check-term-lts.Need-enum-known-then-2 (check-term-calls t) (check-term-at t) check-term.Post check-term-Inv-loop check-term-μ-loop
 check-term-enum-known-then-2 t c = search needs
 
-check-term-enum-known-then-3 : (t : ℕ) → check-term-lts.Need-enum-known-then-3 (check-term-calls t) (check-term-at t) check-term.Post
+check-term-enum-known-then-3 : (t : ℕ) → check-term-lts.Need-enum-known-then-3 (check-term-calls t) (check-term-at t) check-term.Post check-term-Inv-loop check-term-μ-loop
 check-term-enum-known-then-3 t c = search needs
 
-check-term-check-term-requires : (t : ℕ) → check-term-lts.Need-check-term-requires (check-term-calls t) (check-term-at t) check-term.Post
-check-term-check-term-requires t c κs = let x = one-passable (made t (c .before .before .before)) (c .before .then3 .given .1) in (omega (arith, c .before .before .before .before .before .before .before .before .before .before .before .before .before .before .before .before .before .before .before .before .before .before .before .before .before .before .before .pre .0, x .0, x .1 .inside), x .1)
+check-term-check-term-requires : (t : ℕ) → check-term-lts.Need-check-term-requires (check-term-calls t) (check-term-at t) check-term.Post check-term-Inv-loop check-term-μ-loop
+check-term-check-term-requires t c κs = let x = one-passable (made t (c .before .before .before .before)) (c .before .before .then3 .given .1) in (omega (arith, c .before .before .before .before .before .before .before .before .before .before .before .before .before .before .before .before .before .before .before .before .before .before .before .before .before .before .pre .0, x .0, x .1 .inside), x .1)
 
-check-term-enum-known-then-4 : (t : ℕ) → check-term-lts.Need-enum-known-then-4 (check-term-calls t) (check-term-at t) check-term.Post
+check-term-enum-known-then-4 : (t : ℕ) → check-term-lts.Need-enum-known-then-4 (check-term-calls t) (check-term-at t) check-term.Post check-term-Inv-loop check-term-μ-loop
 check-term-enum-known-then-4 t c = search needs
 
-check-term-check-term-requires-2 : (t : ℕ) → check-term-lts.Need-check-term-requires-2 (check-term-calls t) (check-term-at t) check-term.Post
-check-term-check-term-requires-2 t c κs = let x = two-passable (made t (c .before .before .before)) (c .before .then4 .given .1) in (omega (arith, c .before .before .before .before .before .before .before .before .before .before .before .before .before .before .before .before .before .before .before .before .before .before .before .before .before .before .before .pre .0, x .0, x .1 .inside), x .1)
+check-term-check-term-requires-2 : (t : ℕ) → check-term-lts.Need-check-term-requires-2 (check-term-calls t) (check-term-at t) check-term.Post check-term-Inv-loop check-term-μ-loop
+check-term-check-term-requires-2 t c κs = let x = two-passable (made t (c .before .before .before .before)) (c .before .before .then4 .given .1) in (omega (arith, c .before .before .before .before .before .before .before .before .before .before .before .before .before .before .before .before .before .before .before .before .before .before .before .before .before .before .pre .0, x .0, x .1 .inside), x .1)
 
-check-term-enum-known-other : (t : ℕ) → check-term-lts.Need-enum-known-other (check-term-calls t) (check-term-at t) check-term.Post
+check-term-enum-known-other : (t : ℕ) → check-term-lts.Need-enum-known-other (check-term-calls t) (check-term-at t) check-term.Post check-term-Inv-loop check-term-μ-loop
 check-term-enum-known-other t c = search needs
 
-check-term-check-term-requires-3 : (t : ℕ) → check-term-lts.Need-check-term-requires-3 (check-term-calls t) (check-term-at t) check-term.Post
-check-term-check-term-requires-3 t c κs = let x = second-passable (made t (c .before .before .before .before .before .before .before)) (c .before .before .before .before .before .then4 .given .1) (c .before .before .before .check-term2 .ensures) (c .before .other .given .1) in (omega (arith, c .before .before .before .before .before .before .before .before .before .before .before .before .before .before .before .before .before .before .before .before .before .before .before .before .before .before .before .before .before .before .before .pre .0, x .0, x .1 .inside), x .1)
+check-term-check-term-requires-3 : (t : ℕ) → check-term-lts.Need-check-term-requires-3 (check-term-calls t) (check-term-at t) check-term.Post check-term-Inv-loop check-term-μ-loop
+check-term-check-term-requires-3 t c κs = let x = second-passable (made t (c .before .before .before .before .before .before .before .before .before)) (c .before .before .before .before .before .before .before .then4 .given .1) (c .before .before .before .before .check-term2 .ensures) (c .before .before .other .given .1) in (omega (arith, c .before .before .before .before .before .before .before .before .before .before .before .before .before .before .before .before .before .before .before .before .before .before .before .before .before .before .before .before .before .before .before .pre .0, x .0, x .1 .inside), x .1)
 
-check-term-enum-known-number : (t : ℕ) → check-term-lts.Need-enum-known-number (check-term-calls t) (check-term-at t) check-term.Post
+check-term-enum-known-number : (t : ℕ) → check-term-lts.Need-enum-known-number (check-term-calls t) (check-term-at t) check-term.Post check-term-Inv-loop check-term-μ-loop
 check-term-enum-known-number t c = search needs
 
-check-term-enum-known-number-2 : (t : ℕ) → check-term-lts.Need-enum-known-number-2 (check-term-calls t) (check-term-at t) check-term.Post
+check-term-enum-known-number-2 : (t : ℕ) → check-term-lts.Need-enum-known-number-2 (check-term-calls t) (check-term-at t) check-term.Post check-term-Inv-loop check-term-μ-loop
 check-term-enum-known-number-2 t c = search needs
 
-check-term-enum-known-then-5 : (t : ℕ) → check-term-lts.Need-enum-known-then-5 (check-term-calls t) (check-term-at t) check-term.Post
+check-term-enum-known-then-5 : (t : ℕ) → check-term-lts.Need-enum-known-then-5 (check-term-calls t) (check-term-at t) check-term.Post check-term-Inv-loop check-term-μ-loop
 check-term-enum-known-then-5 t c = search needs
 
-check-term-check-branches-requires : (t : ℕ) → check-term-lts.Need-check-branches-requires (check-term-calls t) (check-term-at t) check-term.Post
-check-term-check-branches-requires t c κs = let x = many-passable (made t (c .before .before .before)) (c .before .then5 .given .1) in (omega (arith, c .before .before .before .before .before .before .before .before .before .before .before .before .before .before .before .before .before .before .before .before .before .before .before .before .before .before .before .pre .0, x .0, x .1 .inside), (x .1, x .2))
+check-term-check-branches-requires : (t : ℕ) → check-term-lts.Need-check-branches-requires (check-term-calls t) (check-term-at t) check-term.Post check-term-Inv-loop check-term-μ-loop
+check-term-check-branches-requires t c κs = let x = many-passable (made t (c .before .before .before .before)) (c .before .before .then5 .given .1) in (omega (arith, c .before .before .before .before .before .before .before .before .before .before .before .before .before .before .before .before .before .before .before .before .before .before .before .before .before .before .pre .0, x .0, x .1 .inside), (x .1, x .2))
 
-check-term-enum-known-then-6 : (t : ℕ) → check-term-lts.Need-enum-known-then-6 (check-term-calls t) (check-term-at t) check-term.Post
+check-term-enum-known-then-6 : (t : ℕ) → check-term-lts.Need-enum-known-then-6 (check-term-calls t) (check-term-at t) check-term.Post check-term-Inv-loop check-term-μ-loop
 check-term-enum-known-then-6 t c = search needs
 
-check-term-returns-3 : (t : ℕ) → check-term-lts.Need-returns-3 (check-term-calls t) (check-term-at t) check-term.Post
+check-term-returns-3 : (t : ℕ) → check-term-lts.Need-returns-3 (check-term-calls t) (check-term-at t) check-term.Post check-term-Inv-loop check-term-μ-loop
 check-term-returns-3 t c = leaf-passed (made t (c .before .before .before)) (c .before .then2 .given .1)
 
-check-term-returns-4 : (t : ℕ) → check-term-lts.Need-returns-4 (check-term-calls t) (check-term-at t) check-term.Post
-check-term-returns-4 t c = one-passed (made t (c .before .before .before .before)) (c .before .before .then3 .given .1) (c .check-term .ensures)
+check-term-returns-4 : (t : ℕ) → check-term-lts.Need-returns-4 (check-term-calls t) (check-term-at t) check-term.Post check-term-Inv-loop check-term-μ-loop
+check-term-returns-4 t c = one-passed (made t (c .before .before .before .before .before)) (c .before .before .before .then3 .given .1) (c .check-term .ensures)
 
-check-term-returns-5 : (t : ℕ) → check-term-lts.Need-returns-5 (check-term-calls t) (check-term-at t) check-term.Post
-check-term-returns-5 t c = two-passed (made t (c .before .before .before .before .before .before .before .before)) (c .before .before .before .before .before .before .then4 .given .1) (c .before .before .before .before .check-term2 .ensures) (c .before .before .other .given .1) (c .check-term3 .ensures)
+check-term-returns-5 : (t : ℕ) → check-term-lts.Need-returns-5 (check-term-calls t) (check-term-at t) check-term.Post check-term-Inv-loop check-term-μ-loop
+check-term-returns-5 t c = two-passed (made t (c .before .before .before .before .before .before .before .before .before .before)) (c .before .before .before .before .before .before .before .before .then4 .given .1) (c .before .before .before .before .before .check-term2 .ensures) (c .before .before .before .other .given .1) (c .check-term3 .ensures)
 
-check-term-returns-6 : (t : ℕ) → check-term-lts.Need-returns-6 (check-term-calls t) (check-term-at t) check-term.Post
-check-term-returns-6 t c = two-unread (made t (c .before .before .before .before .before .before .before)) (c .before .before .before .before .before .then4 .given .1) (c .before .before .before .check-term2 .ensures) (c .before .number .given .1)
+check-term-returns-6 : (t : ℕ) → check-term-lts.Need-returns-6 (check-term-calls t) (check-term-at t) check-term.Post check-term-Inv-loop check-term-μ-loop
+check-term-returns-6 t c = two-unread (made t (c .before .before .before .before .before .before .before .before)) (c .before .before .before .before .before .before .then4 .given .1) (c .before .before .before .check-term2 .ensures) (c .before .number .given .1)
 
-check-term-returns-7 : (t : ℕ) → check-term-lts.Need-returns-7 (check-term-calls t) (check-term-at t) check-term.Post
-check-term-returns-7 t c = two-faults (made t (c .before .before .before .before .before .before .before)) (c .before .before .before .before .before .then4 .given .1) (c .before .before .before .check-term2 .ensures) (c .before .number2 .given .1)
+check-term-returns-7 : (t : ℕ) → check-term-lts.Need-returns-7 (check-term-calls t) (check-term-at t) check-term.Post check-term-Inv-loop check-term-μ-loop
+check-term-returns-7 t c = two-faults (made t (c .before .before .before .before .before .before .before .before)) (c .before .before .before .before .before .before .then4 .given .1) (c .before .before .before .check-term2 .ensures) (c .before .number2 .given .1)
 
-check-term-returns-8 : (t : ℕ) → check-term-lts.Need-returns-8 (check-term-calls t) (check-term-at t) check-term.Post
-check-term-returns-8 t c = many-passed (made t (c .before .before .before .before)) (c .before .before .then5 .given .1) (c .check-branches .ensures)
+check-term-returns-8 : (t : ℕ) → check-term-lts.Need-returns-8 (check-term-calls t) (check-term-at t) check-term.Post check-term-Inv-loop check-term-μ-loop
+check-term-returns-8 t c = many-passed (made t (c .before .before .before .before .before)) (c .before .before .before .then5 .given .1) (c .check-branches .ensures)
 
-check-term-returns-9 : (t : ℕ) → check-term-lts.Need-returns-9 (check-term-calls t) (check-term-at t) check-term.Post
-check-term-returns-9 t c = fault-passed (node-met t (c .before .before .before .before .before .before .before .before .before .before .before .before .before .before .before .before .before .before .before .before .before .before .before)) (c .before .then6 .given .1)
+check-term-returns-9 : (t : ℕ) → check-term-lts.Need-returns-9 (check-term-calls t) (check-term-at t) check-term.Post check-term-Inv-loop check-term-μ-loop
+check-term-returns-9 t c = fault-passed (node-met t (c .before .before .before .before .before .before .before .before .before .before .before .before .before .before .before .before .before .before .before .before .before)) (c .before .then6 .given .1)
 
 pub +check-branches+check-term-spec : {M : Type 1} → statement M
 +check-branches+check-term-spec =
@@ -355,7 +424,7 @@ pub +check-branches+check-term-spec : {M : Type 1} → statement M
     (check-branches-add-byte t)
     (check-branches-byte-requires t)
     (check-branches-sees-requires t)
-    (check-branches-add-t27 t)
+    (check-branches-add-t28 t)
     (check-branches-returns-2 t)
     (check-branches-branch-slots-requires t)
     (check-branches-add-check-term t)
@@ -373,6 +442,9 @@ pub +check-branches+check-term-spec : {M : Type 1} → statement M
     λ t. check-term-lts.spec (check-term-calls t)
     (check-term-at t)
     check-term.Post
+    check-term-Inv-loop
+    check-term-μ-loop
+    (check-term-plain-stands-requires t)
     (check-term-plain-row-requires t)
     (check-term-read-node-requires t)
     (check-term-enum-known-then t)
@@ -391,12 +463,22 @@ pub +check-branches+check-term-spec : {M : Type 1} → statement M
     (check-term-take-named-requires t)
     (check-term-takes-many-requires t)
     (check-term-take-many-requires t)
+    (check-term-note-requires t)
     (check-term-returns-2 t)
-    (check-term-spend-requires t)
-    (check-term-bound-kind-requires t)
-    (check-term-cast-t50 t)
+    (check-term-loop-holds t)
+    (check-term-lowest-requires t)
+    (check-term-mul-slot t)
+    (check-term-array-copy-out-slot t)
+    (check-term-used-requires t)
     (check-term-mul-inner t)
     (check-term-array-set-from-inner t)
+    (check-term-without-lowest-requires t)
+    (check-term-loop-less t)
+    (check-term-loop-again t)
+    (check-term-bound-kind-requires t)
+    (check-term-cast-t67 t)
+    (check-term-mul-inner-2 t)
+    (check-term-array-set-from-inner-2 t)
     (check-term-enum-known-then-2 t)
     (check-term-enum-known-then-3 t)
     (check-term-check-term-requires t)

@@ -10,19 +10,19 @@ use Rattle.checker.proofs.reading.Body.{few-slots, body-goes, all-read}
 use Rattle.checker.proofs.bodies.Filing.{Left, all-left, fine-left, body-stops, finished-fault, body-refused, end-refused, end-finished, all-checked}
 
 abbrev Inv-loop : tie.InvT-loop
-Inv-loop file decl₀ start count f₀ at₀ decl f at = (f ≤ count) × Bodied file decl count f at × Left file f
+Inv-loop file decl₀ calls₀ start count f₀ at₀ decl calls f at = (f ≤ count) × Bodied file decl count f at × Left file calls f
 
 abbrev μ-loop : tie.MeasureT-loop
-μ-loop file decl₀ start count f₀ at₀ decl f at = count - f
+μ-loop file decl₀ calls₀ start count f₀ at₀ decl calls f at = count - f
 
 loop-holds : tie.Need-loop-holds Inv-loop μ-loop
-loop-holds c = (omega arith, c .before .pre .1, all-left _)
+loop-holds c = (omega arith, c .before .pre .1, all-left _ _ (c .before .pre .2))
 
 check-body-requires : tie.Need-check-body-requires Inv-loop μ-loop
 check-body-requires c κs =
-    let b = c .before .before .loop .inv .1 in
+    let b = c .before .before .before .loop .inv .1 in
     let w = b .few-functions in
-    (record { small = c .before .before .before .before .pre .0; wide = b .wide; inside = b .inside; slots = omega arith; nodes = omega arith }, omega (arith, w, c .before .loop-test .taken), few-slots _ _ _ _ _ b (c .before .loop-test .taken))
+    (record { small = c .before .before .before .before .before .pre .0; wide = b .wide; inside = b .inside; slots = omega arith; nodes = omega arith }, omega (arith, w, c .before .before .loop-test .taken), few-slots _ _ _ _ _ b (c .before .before .loop-test .taken))
 
 enum-known-next : tie.Need-enum-known-next Inv-loop μ-loop
 enum-known-next c = search needs
@@ -35,20 +35,28 @@ add-decl c =
 cast-decl : tie.Need-cast-decl Inv-loop μ-loop
 cast-decl c =
     let y = c .before .before .before .check-body .ensures .next _ (c .before .next .given .1) in
-    omega (arith, y .0, y .1, c .before .before .before .before .before .before .before .before .pre .0)
+    omega (arith, y .0, y .1, c .before .before .before .before .before .before .before .before .before .pre .0)
 
 add-decl-2 : tie.Need-add-decl-2 Inv-loop μ-loop
 add-decl-2 c =
-    let w = c .before .before .before .before .before .before .loop .inv .1 .few-functions in
-    omega (arith, w, c .before .before .before .before .before .loop-test .taken)
+    let w = c .before .before .before .before .before .before .before .loop .inv .1 .few-functions in
+    omega (arith, w, c .before .before .before .before .before .before .loop-test .taken)
 
 mul-decl : tie.Need-mul-decl Inv-loop μ-loop
 mul-decl c = search needs
 
 element-write-decl : tie.Need-element-write-decl Inv-loop μ-loop
 element-write-decl c =
-    let w = c .before .before .before .before .before .before .loop .inv .1 .few-functions in
-    omega (arith, w, c .before .before .before .before .before .loop-test .taken)
+    let w = c .before .before .before .before .before .before .before .loop .inv .1 .few-functions in
+    omega (arith, w, c .before .before .before .before .before .before .loop-test .taken)
+
+mul-calls : tie.Need-mul-calls Inv-loop μ-loop
+mul-calls c = search needs
+
+element-write-calls : tie.Need-element-write-calls Inv-loop μ-loop
+element-write-calls c =
+    let w = c .before .before .before .before .before .before .before .loop .inv .1 .few-functions in
+    omega (arith, w, c .before .before .before .before .before .before .loop-test .taken)
 
 add-f : tie.Need-add-f Inv-loop μ-loop
 add-f c = omega arith
@@ -59,19 +67,19 @@ loop-less c = omega arith
 loop-again : tie.Need-loop-again Inv-loop μ-loop
 loop-again c =
     let y = c .before .before .before .check-body .ensures .next _ (c .before .next .given .1) in
-    (omega (arith, c .before .before .before .before .before .loop-test .taken), body-goes _ _ _ _ _ (c .before .before .before .before .before .before .loop .inv .1) (c .before .before .before .before .before .loop-test .taken) _ (y .2) (y .1), fine-left _ _ _ _ _ (c .before .before .before .before .before .before .loop .inv .1) (c .before .before .before .before .before .loop-test .taken) (c .before .before .before .before .before .before .loop .inv .2) (y .3))
+    (omega (arith, c .before .before .before .before .before .before .loop-test .taken), body-goes _ _ _ _ _ (c .before .before .before .before .before .before .before .loop .inv .1) (c .before .before .before .before .before .before .loop-test .taken) _ (y .2) (y .1), fine-left _ _ _ _ _ (c .before .before .before .before .before .before .before .loop .inv .1) (c .before .before .before .before .before .before .loop-test .taken) (c .before .before .before .before .before .before .before .loop .inv .2) (y .3) (y .4))
 
 enum-known-number : tie.Need-enum-known-number Inv-loop μ-loop
 enum-known-number c = search needs
 
 returns : tie.Need-returns Inv-loop μ-loop
-returns c = body-refused _ _ _ _ _ (c .before .before .before .before .before .before .before .before .pre .0) (c .before .before .before .before .before .before .loop .inv .1) (c .before .before .before .before .before .loop-test .taken) _ _ _ (c .before .number .given .1) (c .before .before .before .check-body .ensures)
+returns c = body-refused _ _ _ _ _ (c .before .before .before .before .before .before .before .before .before .pre .0) (c .before .before .before .before .before .before .before .loop .inv .1) (c .before .before .before .before .before .before .loop-test .taken) _ _ _ _ (c .before .number .given .1) (c .before .before .before .check-body .ensures)
 
 enum-known-number-2 : tie.Need-enum-known-number-2 Inv-loop μ-loop
 enum-known-number-2 c = search needs
 
 returns-2 : tie.Need-returns-2 Inv-loop μ-loop
-returns-2 c = finished-fault _ _ _ _ (body-stops _ _ _ _ _ (c .before .before .before .before .before .before .loop .inv .1) (c .before .before .before .before .before .loop-test .taken) (c .before .before .before .before .before .before .loop .inv .2) (c .before .before .before .check-body .ensures .fault _ _ (c .before .number2 .given .1)))
+returns-2 c = finished-fault _ _ _ _ _ (body-stops _ _ _ _ _ (c .before .before .before .before .before .before .before .loop .inv .1) (c .before .before .before .before .before .before .loop-test .taken) (c .before .before .before .before .before .before .before .loop .inv .2) (c .before .before .before .check-body .ensures .fault _ _ (c .before .number2 .given .1)))
 
 read-end-requires : tie.Need-read-end-requires Inv-loop μ-loop
 read-end-requires c κs = c .before .loop .inv .1 .inside
@@ -83,10 +91,10 @@ enum-known-end : tie.Need-enum-known-end Inv-loop μ-loop
 enum-known-end c = search needs
 
 returns-3 : tie.Need-returns-3 Inv-loop μ-loop
-returns-3 c = end-refused _ _ _ _ (c .before .before .before .before .before .before .before .pre .0) (all-read (c .before .before .before .before .before .loop .inv .0) (c .before .before .before .before .loop-test .left) (c .before .before .before .before .before .loop .inv .1)) _ _ (sym (c .before .before .before .read-end .ensures) ∙ c .before .number3 .given .1)
+returns-3 c = end-refused _ _ _ _ _ (c .before .before .before .before .before .before .before .pre .0) (all-read (c .before .before .before .before .before .loop .inv .0) (c .before .before .before .before .loop-test .left) (c .before .before .before .before .before .loop .inv .1)) _ _ (sym (c .before .before .before .read-end .ensures) ∙ c .before .number3 .given .1)
 
 returns-4 : tie.Need-returns-4 Inv-loop μ-loop
-returns-4 c = end-finished _ _ _ _ (c .before .before .before .before .before .before .before .pre .0) (all-read (c .before .before .before .before .before .loop .inv .0) (c .before .before .before .before .loop-test .left) (c .before .before .before .before .before .loop .inv .1)) (all-checked (c .before .before .before .before .before .loop .inv .0) (c .before .before .before .before .loop-test .left) (c .before .before .before .before .before .loop .inv .2)) _ (sym (c .before .before .before .read-end .ensures) ∙ c .before .end .given .1)
+returns-4 c = end-finished _ _ _ _ _ (c .before .before .before .before .before .before .before .pre .0) (all-read (c .before .before .before .before .before .loop .inv .0) (c .before .before .before .before .loop-test .left) (c .before .before .before .before .before .loop .inv .1)) (all-checked (c .before .before .before .before .before .loop .inv .0) (c .before .before .before .before .loop-test .left) (c .before .before .before .before .before .loop .inv .2)) _ (sym (c .before .before .before .read-end .ensures) ∙ c .before .end .given .1)
 
 pub check-bodies-spec : {M : Type 1} → statement M
 check-bodies-spec =
@@ -102,6 +110,8 @@ check-bodies-spec =
     add-decl-2
     mul-decl
     element-write-decl
+    mul-calls
+    element-write-calls
     add-f
     loop-less
     loop-again

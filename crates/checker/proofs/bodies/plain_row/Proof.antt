@@ -1,4 +1,4 @@
--- `checker::bodies::plain_row` meets its contract: behind each plain node the term reads, and is judged, as from the first. Assumes nothing.
+-- `checker::bodies::plain_row` meets its contract: behind each plain node the term reads, is judged, and calls, as from the first. Assumes nothing.
 use Rattle.checker.proofs.bodies.plain_row.Statement.{statement}
 use Rattle.checker.proofs.bodies.plain_row.Tie as tie
 use borrow.Author.Needs.{needs}
@@ -11,20 +11,21 @@ use Rattle.checker.specs.declared.reading.Read.{Read}
 use Rattle.checker.specs.declared.bodies.Checked.{Checked}
 use Rattle.checker.specs.Slots.{unbound}
 use Rattle.checker.specs.Reads.{ReadsTerm}
-use Rattle.checker.specs.OwnershipReady.{Judged}
-use Rattle.checker.proofs.bodies.Plainness.{sized, plain-within, plain-reads, plain-judged}
+use Rattle.checker.specs.OwnershipReady.{Judged, Noted}
+use Rattle.checker.proofs.bodies.Plainness.{sized, plain-within, plain-reads, plain-judged, plain-noted}
 
 abbrev Inv-loop : tie.InvT-loop
 Inv-loop file start inner₀ at₀ path₀ inner at path =
     (start ≤ at) × (at ≤ length file) × (length inner ≡ 32) × (path .slots ≤ 32) × (path .nodes ≤ 64)
     × ((d : List ℕ) (q : Read) → ReadsTerm file d at path q → ReadsTerm file d start path₀ q)
     × ((d : List ℕ) (result : ℕ) (c : Checked) → Judged file d at result inner (path .slots) c → Judged file d start result inner₀ (path₀ .slots) c)
+    × ((d : List ℕ) (result w w′ : ℕ) → Noted file d at result (path .slots) w w′ → Noted file d start result (path₀ .slots) w w′)
 
 abbrev μ-loop : tie.MeasureT-loop
 μ-loop file start inner₀ at₀ path₀ inner at path = length file - at
 
 loop-holds : tie.Need-loop-holds Inv-loop μ-loop
-loop-holds c = (omega arith, c .before .pre .1, c .before .good .1 .1 .0 .1 .0 .1, c .before .pre .2, c .before .pre .3, λ d q x. x, λ d result k x. x)
+loop-holds c = (omega arith, c .before .pre .1, c .before .good .1 .1 .0 .1 .0 .1, c .before .pre .2, c .before .pre .3, λ d q x. x, λ d result k x. x, λ d result w w′ x. x)
 
 add-loop : tie.Need-add-loop Inv-loop μ-loop
 add-loop c = omega (arith, c .loop .inv .1, c .before .before .pre .0)
@@ -65,6 +66,7 @@ returns c = record {
   few-nodes = c .before .before .before .before .before .before .before .loop .inv .4;
   reads = c .before .before .before .before .before .before .before .loop .inv .5;
   judged = c .before .before .before .before .before .before .before .loop .inv .6;
+  noted = c .before .before .before .before .before .before .before .loop .inv .7;
 }
 
 cast-t26 : tie.Need-cast-t26 Inv-loop μ-loop
@@ -97,14 +99,17 @@ loop-again c =
     let inner = c .before .before .before .before .before .before .before .before .loop .inner in
     let l : at + 5 ≤ length f = c .before .before .before .before .before .before .before .loop-test .taken in
     let s = sized f at path _ _ (c .before .before .plain-size .ensures) (c .before .if1 .left) in
-    let w = plain-within _ _ _ _ _ (c .before .before .plain-size .ensures) (c .before .if1 .left) in (
+    let w = plain-within _ _ _ _ _ (c .before .before .plain-size .ensures) (c .before .if1 .left) in
+    let first = ap (λ i. getD inner i unbound .kind) (c .before .before .before .before .before .before .slot-index .ensures .0) in
+    let second = ap (λ i. getD inner i unbound .kind) (c .before .before .before .before .before .slot-index2 .ensures .0) in (
       omega (arith, inv .0),
       omega (arith, w .1, l),
       length-set inner (path .slots) _ ∙ inv .2,
       omega (arith, w .2),
       omega (arith, w .3),
       λ d q x. inv .5 d q (plain-reads f at path _ _ s l d q x),
-      λ d result k x. inv .6 d result k (plain-judged f at path _ _ d result inner (inv .2) (ap (λ i. getD inner i unbound .kind) (c .before .before .before .before .before .before .slot-index .ensures .0)) (ap (λ i. getD inner i unbound .kind) (c .before .before .before .before .before .slot-index2 .ensures .0)) s k x),
+      λ d result k x. inv .6 d result k (plain-judged f at path _ _ d result inner (inv .2) first second s k x),
+      λ d result v v′ x. inv .7 d result v v′ (plain-noted f at path _ _ d result inner (inv .2) first second s v v′ x),
     )
 
 returns-2 : tie.Need-returns-2 Inv-loop μ-loop
@@ -116,6 +121,7 @@ returns-2 c = record {
   few-nodes = c .before .loop .inv .4;
   reads = c .before .loop .inv .5;
   judged = c .before .loop .inv .6;
+  noted = c .before .loop .inv .7;
 }
 
 pub plain-row-spec : {M : Type 1} → statement M

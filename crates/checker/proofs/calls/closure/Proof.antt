@@ -15,7 +15,8 @@ use native.Mathlib.Omega.{arith}
 use lib.ListN.{set}
 use borrow.Author.Tests.{le-leb, lt-leb}
 use Rattle.meaning.specs.Sets.{first, zip, or, except}
-use Rattle.checker.specs.Bits.{bitsOf, member, visits, closure}
+use Rattle.checker.specs.OwnershipBits.{bitsOf}
+use Rattle.checker.specs.Bits.{member, visits, closure}
 use Rattle.checker.proofs.calls.Digits.{some}
 
 stop : (n : ℕ) (row : ℕ → List Bool) (todo seen : List Bool) → 32 ≤ first todo → visits n row todo seen ≡ seen

@@ -4,7 +4,7 @@ use Rattle.checker.proofs.calls.except.Reads as reads
 use Rattle.checker.proofs.calls.except.Lts as lts
 use Rattle.checker.proofs.calls.Digits.{or-bits, xor-bits}
 use mathlib.Core.Path.{ap, _∙_}
-use Rattle.checker.specs.Bits.{bitsOf}
+use Rattle.checker.specs.OwnershipBits.{bitsOf}
 use Rattle.meaning.specs.Sets.{zip, differ}
 
 returns : tie.Need-returns

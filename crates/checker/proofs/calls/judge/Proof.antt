@@ -7,12 +7,12 @@ use Rattle.checker.proofs.calls.judge.Lts as lts
 use Rattle.checker.proofs.calls.count_of.Reads as count-of-reads
 use Rattle.checker.proofs.calls.settle.Reads as settle-reads
 use Rattle.checker.proofs.calls.visit.Reads as visit-reads
-use mathlib.Core.Path.{refl, sym, subst}
+use mathlib.Core.Path.{sym, subst}
 use Rattle.meaning.specs.Calls.{IsReached}
 use Rattle.checker.proofs.calls.Levels.{settled}
 
 visit-requires : tie.Need-visit-requires
-visit-requires c κs = (c .before .before .pre .0, c .before .before .pre .1, refl, refl)
+visit-requires c κs = search needs
 
 count-of-requires : tie.Need-count-of-requires
 count-of-requires c κs = search needs
@@ -22,7 +22,7 @@ settle-requires c κs = search needs
 
 returns : tie.Need-returns
 returns c =
-    settled (c .before .before .before .before .before .before .before .args .square) (c .before .before .before .before .before .before .before .args .count) (c .before .before .before .before .before .before .before .pre .1) _ _ (c .before .before .before .before .visit .ensures .0) (c .before .before .before .before .before .before .before .pre .0)
+    settled (c .before .before .before .before .before .before .before .args .square) (c .before .before .before .before .before .before .before .pre .narrow) _ _ (c .before .before .before .before .visit .ensures .0)
     (subst (IsReached (c .before .before .before .before .before .before .before .args .square)) (sym (c .before .count-of .ensures .0)) (c .before .before .before .before .visit .ensures .1)) (c .settle .ensures)
 
 pub judge-spec : {M : Type 1} → statement M

@@ -1,3 +1,4 @@
+-- `calls::settle` meets its contract. Assumes nothing.
 use Rattle.checker.proofs.calls.settle.Statement.{statement}
 use Rattle.checker.proofs.calls.settle.Tie as tie
 use Rattle.checker.proofs.calls.settle.Reads as reads
@@ -9,16 +10,17 @@ use Prim.Native.Nat.{ℕ, _-_, _≤_, _<_, _^_}
 use mathlib.Core.Path.{_≡_, sym, ap, _∙_, subst}
 use native.Mathlib.Omega.{arith}
 use native.Mathlib.Numerals.{add-one}
-use Rattle.checker.specs.Bits.{bitsOf, member, Some, Empty, ends, goes-on}
+use Rattle.checker.specs.OwnershipBits.{bitsOf}
+use Rattle.checker.specs.Bits.{member, Some, Empty, ends, goes-on}
 use Rattle.checker.specs.Bits as depths
 use Rattle.checker.proofs.calls.Digits.{some-member, no-member}
 use Rattle.checker.proofs.calls.Filling.{below-next}
 
 abbrev Inv-loop : tie.InvT-loop
-Inv-loop tails waits count reached level₀ depth₀ level depth = (depth ≤ reached) × (bitsOf 32 level ≡ depths.level (member tails) (member waits) count depth) × ((n : ℕ) → n < depth → Some (depths.level (member tails) (member waits) count n)) × (level < 2 ^ 32)
+Inv-loop tails waits reached level₀ depth₀ level depth = (depth ≤ reached) × (bitsOf 32 level ≡ depths.level (member tails) (member waits) depth) × ((n : ℕ) → n < depth → Some (depths.level (member tails) (member waits) n)) × (level < 2 ^ 32)
 
 abbrev μ-loop : tie.MeasureT-loop
-μ-loop tails waits count reached level₀ depth₀ level depth = reached - depth
+μ-loop tails waits reached level₀ depth₀ level depth = reached - depth
 
 closure-requires : tie.Need-closure-requires Inv-loop μ-loop
 closure-requires c κs = search needs
@@ -31,7 +33,7 @@ returns : tie.Need-returns Inv-loop μ-loop
 returns c =
     let a = c .before .before .before .before .args in
     let e : c .before .before .loop .depth ≡ a .reached = omega arith in
-    goes-on (subst (λ n. Some (depths.level (member (a .tails .now)) (member (a .waits .now)) (a .count) n)) e
+    goes-on (subst (λ n. Some (depths.level (member (a .tails .now)) (member (a .waits .now)) n)) e
     (subst Some (c .before .before .loop .inv .1) (some-member (c .before .before .loop .level) (c .before .before .loop .inv .3) (c .before .loop-test .taken))))
 
 add-depth : tie.Need-add-depth Inv-loop μ-loop
@@ -50,10 +52,10 @@ loop-again : tie.Need-loop-again Inv-loop μ-loop
 unfolding depths.level
 loop-again c =
     let a = c .before .before .before .before .before .before .args in
-    let l = depths.level (member (a .tails .now)) (member (a .waits .now)) (a .count) in
+    let l = depths.level (member (a .tails .now)) (member (a .waits .now)) in
     let d = c .before .before .before .before .loop .depth in (
       omega arith,
-      c .closure2 .ensures ∙ ap (depths.closure (member (a .tails .now))) (c .before .onward .ensures ∙ ap (depths.onward (a .count) (member (a .waits .now))) (c .before .before .before .before .loop .inv .1)) ∙ ap l (sym (add-one d)),
+      c .closure2 .ensures ∙ ap (depths.closure (member (a .tails .now))) (c .before .onward .ensures ∙ ap (depths.onward 32 (member (a .waits .now))) (c .before .before .before .before .loop .inv .1)) ∙ ap l (sym (add-one d)),
       λ n k. below-next d n (c .before .before .before .before .loop .inv .2) (subst Some (c .before .before .before .before .loop .inv .1) (some-member (c .before .before .before .before .loop .level) (c .before .before .before .before .loop .inv .3) (c .before .before .before .loop-test .taken))) k,
       omega arith,
     )

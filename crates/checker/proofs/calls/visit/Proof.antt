@@ -6,35 +6,35 @@ use Rattle.checker.proofs.calls.visit.Lts as lts
 use Rattle.checker.proofs.calls.either.Reads as either-reads
 use Rattle.checker.proofs.calls.except.Reads as except-reads
 use Rattle.checker.proofs.calls.lowest.Reads as lowest-reads
-use Rattle.checker.proofs.calls.mask.Reads as mask-reads
+use Rattle.checker.proofs.calls.waiting.Reads as waiting-reads
 use Rattle.checker.proofs.calls.without_lowest.Reads as without-lowest-reads
 use borrow.Author.Needs.{needs}
 use Prim.Native.Nat.{_-_, _≤_, _<_}
 use mathlib.Core.Path.{_≡_, ap₂, _∙_}
 use native.Mathlib.Omega.{arith}
-use lib.ListN.{length, set, length-set}
-use Rattle.meaning.specs.Sets.{zip, or}
+use lib.ListN.{length, getD, set, length-set}
+use Rattle.meaning.specs.Sets.{except}
 use Rattle.checker.proofs.calls.Digits.{some}
-use Rattle.checker.proofs.calls.Masks.{Masked, masked-here, masked-other, both-row, tells}
+use Rattle.checker.proofs.calls.Masks.{Masked, leads, tails-left, masked-here, masked-other, tells}
 use Rattle.checker.proofs.calls.Visits.{Visiting, visit-start, visit-next, visit-stop, visit-spent}
-use Rattle.checker.proofs.calls.Keeping.{narrow}
 
 abbrev Inv-loop : tie.InvT-loop
-Inv-loop count tails₀ waits₀ square todo₀ seen₀ k₀ tails waits todo seen k = (k ≤ 32) × (length tails ≡ 32) × (length waits ≡ 32) × Visiting square (Masked square count tails waits) (λ f. Unit {0}) k todo seen
+Inv-loop called tails₀ waits₀ square todo₀ seen₀ k₀ tails waits todo seen k = (k ≤ 32) × (length tails ≡ 32) × (length waits ≡ 32) × Visiting square (Masked square tails waits) k todo seen
 
 abbrev μ-loop : tie.MeasureT-loop
-μ-loop count tails₀ waits₀ square todo₀ seen₀ k₀ tails waits todo seen k = 32 - k
+μ-loop called tails₀ waits₀ square todo₀ seen₀ k₀ tails waits todo seen k = 32 - k
 
 loop-holds : tie.Need-loop-holds Inv-loop μ-loop
-loop-holds c = (omega arith, c .pre .2, c .pre .3, visit-start (c .args .t1) _ _ (λ f. tt))
+loop-holds c = (omega arith, c .pre .1, c .pre .2, visit-start (c .args .t1) _)
 
 lowest-requires : tie.Need-lowest-requires Inv-loop μ-loop
 lowest-requires c κs = search needs
 
 returns : tie.Need-returns Inv-loop μ-loop
 returns c =
-    let v = visit-stop (c .before .before .before .before .args .t1) (narrow (c .before .before .before .before .args .t1) (c .before .before .before .before .args .count) (c .before .before .before .before .pre .0) (c .before .before .before .before .pre .1)) (c .before .before .before .loop .inv .3) (c .before .lowest .result) (c .before .lowest .ensures .0) (c .if1 .taken) in
-    (tells (c .before .before .before .before .args .t1) (c .before .before .before .before .args .count) (c .before .before .before .before .pre .0) (c .before .before .before .before .pre .1) (c .before .before .before .loop .tails) (c .before .before .before .loop .waits) (v .good), v .count)
+    let narrow = c .before .before .before .before .pre .0 .narrow in
+    let v = visit-stop (c .before .before .before .before .args .t1) narrow (c .before .before .before .loop .inv .3) (c .before .lowest .result) (c .before .lowest .ensures .0) (c .if1 .taken) in
+    (tells (c .before .before .before .before .args .t1) narrow (c .before .before .before .loop .tails) (c .before .before .before .loop .waits) (v .good), v .count)
 
 cast-row : tie.Need-cast-row Inv-loop μ-loop
 cast-row c = search needs
@@ -45,20 +45,17 @@ mul-row c = search needs
 array-copy-out-row : tie.Need-array-copy-out-row Inv-loop μ-loop
 array-copy-out-row c = search needs
 
-mask-requires : tie.Need-mask-requires Inv-loop μ-loop
-mask-requires c κs = search needs
+cast-calls : tie.Need-cast-calls Inv-loop μ-loop
+cast-calls c = search needs
 
-mask-requires-2 : tie.Need-mask-requires-2 Inv-loop μ-loop
-mask-requires-2 c κs = search needs
+mul-calls : tie.Need-mul-calls Inv-loop μ-loop
+mul-calls c = search needs
 
-cast-tails : tie.Need-cast-tails Inv-loop μ-loop
-cast-tails c = search needs
+element-copy-out-calls : tie.Need-element-copy-out-calls Inv-loop μ-loop
+element-copy-out-calls c = search needs
 
-mul-tails : tie.Need-mul-tails Inv-loop μ-loop
-mul-tails c = search needs
-
-element-write-tails : tie.Need-element-write-tails Inv-loop μ-loop
-element-write-tails c = search needs
+waiting-requires : tie.Need-waiting-requires Inv-loop μ-loop
+waiting-requires c κs = c .before .before .before .before .before .before .pre .0 .led (c .before .before .before .lowest .result) (c .before .before .if1 .left)
 
 cast-waits : tie.Need-cast-waits Inv-loop μ-loop
 cast-waits c = search needs
@@ -69,20 +66,29 @@ mul-waits c = search needs
 element-write-waits : tie.Need-element-write-waits Inv-loop μ-loop
 element-write-waits c = search needs
 
-either-requires : tie.Need-either-requires Inv-loop μ-loop
-either-requires c κs = search needs
+except-requires : tie.Need-except-requires Inv-loop μ-loop
+except-requires c κs = search needs
+
+cast-tails : tie.Need-cast-tails Inv-loop μ-loop
+cast-tails c = search needs
+
+mul-tails : tie.Need-mul-tails Inv-loop μ-loop
+mul-tails c = search needs
+
+element-write-tails : tie.Need-element-write-tails Inv-loop μ-loop
+element-write-tails c = search needs
 
 without-lowest-requires : tie.Need-without-lowest-requires Inv-loop μ-loop
 without-lowest-requires c κs = some _ (omega (arith, c .before .before .before .before .before .lowest .ensures .0))
 
-except-requires : tie.Need-except-requires Inv-loop μ-loop
-except-requires c κs = search needs
+except-requires-2 : tie.Need-except-requires-2 Inv-loop μ-loop
+except-requires-2 c κs = search needs
+
+either-requires : tie.Need-either-requires Inv-loop μ-loop
+either-requires c κs = search needs
 
 either-requires-2 : tie.Need-either-requires-2 Inv-loop μ-loop
 either-requires-2 c κs = search needs
-
-either-requires-3 : tie.Need-either-requires-3 Inv-loop μ-loop
-either-requires-3 c κs = search needs
 
 add-k : tie.Need-add-k Inv-loop μ-loop
 add-k c = search needs
@@ -93,29 +99,28 @@ loop-less c = search needs
 loop-again : tie.Need-loop-again Inv-loop μ-loop
 loop-again c =
     let square = c .before .before .before .before .before .before .before .before .before .before .before .before .args .t1 in
-    let count = c .before .before .before .before .before .before .before .before .before .before .before .before .args .count in
-    let small = c .before .before .before .before .before .before .before .before .before .before .before .before .pre .0 in
-    let within = c .before .before .before .before .before .before .before .before .before .before .before .before .pre .1 in
+    let called = c .before .before .before .before .before .before .before .before .before .before .before .before .pre .0 in
     let tails = c .before .before .before .before .before .before .before .before .before .before .before .loop .tails in
     let waits = c .before .before .before .before .before .before .before .before .before .before .before .loop .waits in
     let i = c .before .before .before .before .before .before .before .before .before .lowest .result in
     let l : i < 32 = c .before .before .before .before .before .before .before .before .if1 .left in
-    let t = c .before .before .before .before .before .before .mask .result in
-    let w = c .before .before .before .before .before .mask2 .result in (
+    let row = leads square (c .before .before .before .before .before .before .before .before .before .before .before .before .args .called .now) called i l in
+    let t = c .before .before .before .before .except .result in
+    let w = c .before .before .before .before .before .waiting .result in (
       omega arith,
       length-set tails i t ∙ c .before .before .before .before .before .before .before .before .before .before .before .loop .inv .1,
       length-set waits i w ∙ c .before .before .before .before .before .before .before .before .before .before .before .loop .inv .2,
-      visit-next square (narrow square count small within) (c .before .before .before .before .before .before .before .before .before .before .before .loop .inv .3) (Masked square count (set tails i t) (set waits i w)) (λ f. Unit {0}) i
-          (c .before .before .before .before .either .result) (c .before .before .before .without-lowest .result) (c .before .before .except .result) (c .before .either2 .result) (c .either3 .result) (c .before .before .before .before .before .before .before .before .before .lowest .ensures .0) l
-          (c .before .before .before .before .either .ensures ∙ ap₂ (zip or) (c .before .before .before .before .before .before .mask .ensures) (c .before .before .before .before .before .mask2 .ensures) ∙ both-row square count small within i)
-          (c .before .before .before .without-lowest .ensures) (c .before .before .except .ensures) (c .before .either2 .ensures) (c .either3 .ensures)
-          (masked-here square count tails waits i t w (omega (arith, c .before .before .before .before .before .before .before .before .before .before .before .loop .inv .1)) (omega (arith, c .before .before .before .before .before .before .before .before .before .before .before .loop .inv .2)) (c .before .before .before .before .before .before .mask .ensures) (c .before .before .before .before .before .mask2 .ensures)) (masked-other square count tails waits i t w) (λ f n u. tt),
+      visit-next square (called .narrow) (c .before .before .before .before .before .before .before .before .before .before .before .loop .inv .3) (Masked square (set tails i t) (set waits i w)) i
+          (getD (c .before .before .before .before .before .before .before .before .before .before .before .before .args .called .now) i 0) (c .before .before .before .without-lowest .result) (c .before .before .except2 .result) (c .before .either .result) (c .either2 .result) (c .before .before .before .before .before .before .before .before .before .lowest .ensures .0) l
+          row (c .before .before .before .without-lowest .ensures) (c .before .before .except2 .ensures) (c .before .either .ensures) (c .either2 .ensures)
+          (masked-here square tails waits i t w (omega (arith, c .before .before .before .before .before .before .before .before .before .before .before .loop .inv .1)) (omega (arith, c .before .before .before .before .before .before .before .before .before .before .before .loop .inv .2)) (c .before .before .before .before .except .ensures ∙ ap₂ except row (c .before .before .before .before .before .waiting .ensures) ∙ tails-left square i) (c .before .before .before .before .before .waiting .ensures)) (masked-other square tails waits i t w),
     )
 
 returns-2 : tie.Need-returns-2 Inv-loop μ-loop
 returns-2 c =
-    let v = visit-spent (c .before .before .args .t1) (narrow (c .before .before .args .t1) (c .before .before .args .count) (c .before .before .pre .0) (c .before .before .pre .1)) (c .before .loop .inv .3) (omega arith) (c .before .loop .inv .0) in
-    (tells (c .before .before .args .t1) (c .before .before .args .count) (c .before .before .pre .0) (c .before .before .pre .1) (c .before .loop .tails) (c .before .loop .waits) (v .good), v .count)
+    let narrow = c .before .before .pre .0 .narrow in
+    let v = visit-spent (c .before .before .args .t1) narrow (c .before .loop .inv .3) (omega arith) (c .before .loop .inv .0) in
+    (tells (c .before .before .args .t1) narrow (c .before .loop .tails) (c .before .loop .waits) (v .good), v .count)
 
 pub visit-spec : {M : Type 1} → statement M
 visit-spec =
@@ -129,19 +134,21 @@ visit-spec =
     cast-row
     mul-row
     array-copy-out-row
-    mask-requires
-    mask-requires-2
-    cast-tails
-    mul-tails
-    element-write-tails
+    cast-calls
+    mul-calls
+    element-copy-out-calls
+    waiting-requires
     cast-waits
     mul-waits
     element-write-waits
-    either-requires
-    without-lowest-requires
     except-requires
+    cast-tails
+    mul-tails
+    element-write-tails
+    without-lowest-requires
+    except-requires-2
+    either-requires
     either-requires-2
-    either-requires-3
     add-k
     loop-less
     loop-again

@@ -1,0 +1,15 @@
+use borrow.Author.Needs.{needs}
+use Rattle.checker.proofs.calls.Halves.{high-half}
+use Rattle.checker.proofs.calls.tails_of.Statement.{statement}
+use Rattle.checker.proofs.calls.tails_of.Tie as tie
+use Rattle.checker.proofs.calls.tails_of.Reads as reads
+use Rattle.checker.proofs.calls.tails_of.Lts as lts
+
+cast-result : tie.Need-cast-result
+cast-result c = search needs
+
+returns : tie.Need-returns
+returns c = high-half (c .args .calls)
+
+pub tails-of-spec : {M : Type 1} → statement M
+tails-of-spec = tie.close (tie.spec cast-result returns)
