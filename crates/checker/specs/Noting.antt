@@ -62,7 +62,6 @@ Led row set = bitsOf 32 set ≡ upto 32 (λ g. called (getD row g Never))
 -- a square of 32 columns, and which functions each row calls
 pub record Called (sq : Square) (sets : List ℕ) : Type 0 where
   pub narrow : (f g : ℕ) → 32 ≤ g → entry sq f g ≡ Never
-  pub wide : (f : ℕ) → f < 32 → length (getD sq f []) ≡ 32
   pub led : (f : ℕ) → f < 32 → Led (getD sq f []) (getD sets f 0)
 
 -- whether an entry is a call of one way

@@ -255,7 +255,7 @@ all-noted f j l file e h =
     l .words file e ∙ ap (λ n. bits.filled 0 n (word-of file)) b
 
 -- ---- the whole file
-pub finished-unread : (f d c : List ℕ) (x q : ℕ) → 0 < x → read f ≡ refuse x q → q ≤ 4096 → Finished f d c (Unread x q)
+finished-unread : (f d c : List ℕ) (x q : ℕ) → 0 < x → read f ≡ refuse x q → q ≤ 4096 → Finished f d c (Unread x q)
 finished-unread f d c x q a b h = record {
   next = λ n z. absurd (next-unread (sym z));
   unread = λ y p z. (

@@ -13,7 +13,6 @@ use Rattle.meaning.specs.Marks.{rowAt, findMark}
 use Rattle.standing.specs.Bytes.{byteAt, markAt, arityIn, paramsIn}
 use Rattle.checker.specs.declared.reading.Path.{Path}
 use Rattle.checker.specs.declared.reading.Node.{Node}
-use Rattle.checker.specs.declared.reading.Then.{Then}
 use Rattle.checker.specs.declared.reading.Then.the-variants as then
 use Rattle.checker.specs.declared.reading.Read.{Read}
 use Rattle.checker.specs.declared.reading.Read.the-variants.{Next, Fault}
@@ -99,7 +98,7 @@ module _ (f d : List ℕ) (at : ℕ) where
   past : (m n : ℕ) → m ≡ n → (k : ℕ) → k ≡ pastOf f d at n → k ≡ pastOf f d at m
   past m n e k q = q ∙ ap (pastOf f d at) (sym e)
 
-  pub fields-past : (m k : ℕ) → fieldsAt f d at m ≡ Next k → k ≡ pastOf f d at m
+  fields-past : (m k : ℕ) → fieldsAt f d at m ≡ Next k → k ≡ pastOf f d at m
   unfolding fieldsAt pastOf namedBy rowAt pick
   fields-past m k e =
       chosen (eqb m 4) _ _ e (λ q w. past m 4 (eqb-true m 4 q) k (omega (arith, room-next f (at + 2) 1 k w))) (λ _ e.
@@ -142,9 +141,6 @@ pub node-read : {f d : List ℕ} {at : ℕ} {p : Path} {n : Node} → n ≡ node
 unfolding nodeAt nodeOf afterFields limited bindsOf pick
 node-read {f} {d} {at} {p} {n} e h k = short (ltb (length f) (at + 2)) refl
   where
-    mark : ℕ
-    mark = findMark (markAt f at)
-
     faulty : {x q : ℕ} {A : Type 0} → nodeAt f d at p ≡ node (then.Fault x q) p → A
     faulty {x} {q} w = absurd (k x q (ap (λ y. y .then) (e ∙ w)))
 

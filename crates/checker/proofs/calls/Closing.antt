@@ -19,11 +19,11 @@ use Rattle.theory.proofs.Bools.{zip-length, zip-at, first-in, first-none}
 use Rattle.theory.proofs.Reach.{clash, decided}
 use Rattle.checker.specs.Bits.{visits, closure, onward}
 
-pub or-cases : (r s : Bool) → or r s ≡ true → (r ≡ true) ⊎ (s ≡ true)
+or-cases : (r s : Bool) → or r s ≡ true → (r ≡ true) ⊎ (s ≡ true)
 or-cases true s e = inl refl
 or-cases false s e = inr e
 
-pub or-right : (r s : Bool) → s ≡ true → or r s ≡ true
+or-right : (r s : Bool) → s ≡ true → or r s ≡ true
 or-right true s e = refl
 or-right false s e = e
 

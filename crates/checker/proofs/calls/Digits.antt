@@ -150,7 +150,7 @@ unfolding bitsOf first
 some-step d x h ih (inl e) = rw e (let k = ih (omega arith) in omega arith)
 some-step d x h ih (inr e) = rw e (omega arith)
 
-pub some-bit : (d x : ℕ) → x < 2 ^ d → 0 < x → first (bitsOf d x) < d
+some-bit : (d x : ℕ) → x < 2 ^ d → 0 < x → first (bitsOf d x) < d
 some-bit zero x l h = absurd (omega arith)
 some-bit (suc d) x l h = some-step d x h (λ k. some-bit d (x / 2) (omega (arith, pow-suc 2 d)) k) (digit x)
 

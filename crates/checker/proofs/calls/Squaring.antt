@@ -107,7 +107,7 @@ module _ {words : List ℕ} {sq : Square} {sets : List ℕ} {n : ℕ} (r : Made 
 
 pub made-all : {words : List ℕ} {sq : Square} {sets : List ℕ} → Made words sq sets 32 → (sq ≡ squareOf words) × Called sq sets
 unfolding squareOf filled
-made-all {words} {sq} {sets} r = (is, record { narrow = narrow; wide = wide; led = λ f l. subst (λ row. Led row (getD sets f 0)) (sym (row-is f l)) (r .led f l) })
+made-all {words} {sq} {sets} r = (is, record { narrow = narrow; led = λ f l. subst (λ row. Led row (getD sets f 0)) (sym (row-is f l)) (r .led f l) })
   where
     is : sq ≡ upto 32 (row-at words)
     is = r .rows ∙ append-nil (upto 32 (row-at words))

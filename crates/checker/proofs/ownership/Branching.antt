@@ -42,7 +42,7 @@ kind-is Mode.number at = refl
 kind-is Mode.lent at = refl
 kind-is Mode.owned at = refl
 
-pub laid-length : (bytes : List ℕ) (scale at n modes bound : ℕ) (xs : List Slot) → length (laidOf bytes scale at n modes bound xs) ≡ length xs
+laid-length : (bytes : List ℕ) (scale at n modes bound : ℕ) (xs : List Slot) → length (laidOf bytes scale at n modes bound xs) ≡ length xs
 unfolding laidOf
 laid-length bytes scale at zero modes bound xs = refl
 laid-length bytes scale at (suc n) modes bound xs = laid-length bytes scale at n (modes + 1) (bound + 1) (set xs bound (bound-slot (kindAt (byteAt bytes modes * scale)) at)) ∙ simp length-set
@@ -85,7 +85,7 @@ kinds-owned [] = refl
 kinds-owned (Sort.number ∷ ss) = ap (λ l. tree.Kind.number ∷ l) (kinds-owned ss)
 kinds-owned (Sort.tree ∷ ss) = ap (λ l. tree.Kind.owned ∷ l) (kinds-owned ss)
 
-pub credits-are : (ss : List Sort) (credit : ℕ) → credit ≤ 1 → creditsOf (length ss) credit ≡ extraBy credit ss
+credits-are : (ss : List Sort) (credit : ℕ) → credit ≤ 1 → creditsOf (length ss) credit ≡ extraBy credit ss
 unfolding creditsOf pick
 credits-are [] zero h = refl
 credits-are [] (suc n) h = refl
@@ -137,7 +137,7 @@ module _ (bytes decl : List ℕ) (at : ℕ) (slots : List Slot) (wide : length s
       ∙ ap (λ y. y ++ (tree.fresh (tree.Kind.credit (length (x ∷ ss))) ∷ [])) (owned-laid (fieldsIn decl c) (x ∷ ss) s (omega arith))
       ∙ bind-append (slotsOf bound slots) (map tree.kind-owned (x ∷ ss)) (tree.credit-of (x ∷ ss)))
 
-  pub branch-tells : (c credit : ℕ) (ss : List Sort) → credit ≤ 1 → arityIn decl c ≡ length ss → Sorts bytes (fieldsIn decl c) ss → bound + (length ss + extraBy credit ss) ≤ 32
+  branch-tells : (c credit : ℕ) (ss : List Sort) → credit ≤ 1 → arityIn decl c ≡ length ss → Sorts bytes (fieldsIn decl c) ss → bound + (length ss + extraBy credit ss) ≤ 32
       → slotsOf (bound + arityIn decl c + creditsOf (arityIn decl c) credit) (branchOf bytes decl c at credit slots bound) ≡ tree.bind (slotsOf bound slots) (boundBy credit ss)
   branch-tells c zero ss f a s h = branch-lent c ss a s (omega arith)
   branch-tells c (suc zero) ss f a s h = branch-owned c ss a s h
@@ -220,7 +220,7 @@ module _ {bytes decl : List ℕ} {at left credit result bound : ℕ} (some : lef
       let x : creditsOf (arityIn decl constructor) credit ≡ extraBy credit sorts = ap (λ k. creditsOf k credit) e ∙ credits-are sorts credit (g .flag) in
       omega arith
 
-  pub branch-low : (at + 3 ≤ length bytes) × (at ≤ 4096) × (constructor < 64) × (more ≤ 32) × (credit ≤ 1)
+  branch-low : (at + 3 ≤ length bytes) × (at ≤ 4096) × (constructor < 64) × (more ≤ 32) × (credit ≤ 1)
   branch-low =
       let s = g .declared .size in
       let n = g .declared .constructors in

@@ -15,15 +15,14 @@ use Rattle.meaning.specs.Outcome.{Outcome, ok, refuse, then}
 use Rattle.meaning.specs.Ownership.{check}
 use Rattle.meaning.specs.Calls.{calls, calls-branches}
 use Rattle.standing.specs.Bytes.{markAt}
-use Rattle.standing.specs.Stands.{Stands, count}
-use Rattle.standing.specs.Stands as stands
+use Rattle.standing.specs.Stands.{count}
 use Rattle.checker.specs.declared.ownership.Taken.{Taken}
 use Rattle.checker.specs.declared.reading.Then.{Then}
 use Rattle.checker.specs.declared.reading.Then.the-variants.{Leaf, One, Two, Many}
 use Rattle.checker.specs.declared.bodies.Checked.{Checked}
 use Rattle.checker.specs.declared.bodies.Checked.the-variants.{Next, Fault}
-use Rattle.checker.specs.Slots.{slotsOf, keptOf}
-use Rattle.checker.specs.Ownership.{takenOf, kindBy, thenOf}
+use Rattle.checker.specs.Slots.{slotsOf}
+use Rattle.checker.specs.Ownership.{takenOf}
 use Rattle.checker.specs.Noting.{noteAt, noteCalls}
 use Rattle.checker.specs.OwnershipReady.{spanned, Ready, Judged, Noted, Made, ReadyAll, JudgedAll, NotedAll}
 use Rattle.checker.proofs.ownership.Taking.{alike-none}
@@ -223,17 +222,3 @@ module _ {bytes decl : List ℕ} {at result : ℕ} {slots : List Slot} {bound m 
 pub node-stops : {bytes decl : List ℕ} {at result : ℕ} {slots : List Slot} {bound m : ℕ} {t : Taken} → length slots ≡ 32 → m ≡ findMark (markAt bytes at)
     → t ≡ takenOf bytes decl at slots bound m result → (t .number ≡ 0 → ⊥) → Judged bytes decl at result slots bound (Fault (t .number) (t .place))
 node-stops {bytes} {decl} {at} {result} {slots} {bound} wide em et n = stops bytes decl at result slots wide bound em et n
-
--- a node that the code has made, by what its functions ensure
-pub made : {bytes decl : List ℕ} {at result : ℕ} {slots : List Slot} {bound m b : ℕ} {t : Taken} {inner : List Slot} {f : Then} → length slots ≡ 32
-    → m ≡ findMark (markAt bytes at) → t ≡ takenOf bytes decl at slots bound m result → t .number ≡ 0 → b ≡ rowAt m .binds
-    → inner ≡ keptOf slots (t .spent) bound (bound + b) (kindBy bytes decl at m) at → f ≡ thenOf bytes decl at m → Made bytes decl at result slots bound m t (bound + b) inner f
-made {bound = bound} wide em et n eb ei ef = record {
-  wide = wide;
-  mark = em;
-  taken = et;
-  fine = n;
-  count = ap (λ x. bound + x) eb;
-  kept = ei;
-  follows = ef;
-}

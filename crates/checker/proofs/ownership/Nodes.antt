@@ -11,7 +11,6 @@ use lib.Bits.{bitOr}
 use borrow.Author.Tests.{lt-ltb, le-ltb}
 use Rattle.meaning.specs.declared.Call.{Call}
 use Rattle.meaning.specs.declared.Kind.{Kind}
-use Rattle.meaning.specs.declared.Kind.the-variants as kind
 use Rattle.meaning.specs.declared.Slot.{Slot}
 use Rattle.meaning.specs.Choice.{pick}
 use Rattle.meaning.specs.Marks.{findMark, markOf, numberOf, rowAt}
@@ -42,13 +41,13 @@ use Rattle.checker.proofs.ownership.Taking.{told, told-then, take-tells
 
 -- ---- what is kept of the slots
 
-pub kept-same : (slots : List Slot) (spent bound more : ℕ) (k : Kind) (at : ℕ) → more ≡ bound → slotsOf more (keptOf slots spent bound more k at) ≡ leftOf slots bound spent
+kept-same : (slots : List Slot) (spent bound more : ℕ) (k : Kind) (at : ℕ) → more ≡ bound → slotsOf more (keptOf slots spent bound more k at) ≡ leftOf slots bound spent
 unfolding keptOf leftOf pick
 kept-same slots spent bound more k at e =
     let l : ltb bound more ≡ false = le-ltb bound more (omega arith) in
     rw (l, e)
 
-pub kept-more : (slots : List Slot) (spent bound more : ℕ) (k : Kind) (at : ℕ) → length slots ≡ 32 → bound < 32 → more ≡ bound + 1 → usedIn k ≡ false
+kept-more : (slots : List Slot) (spent bound more : ℕ) (k : Kind) (at : ℕ) → length slots ≡ 32 → bound < 32 → more ≡ bound + 1 → usedIn k ≡ false
     → slotsOf more (keptOf slots spent bound more k at) ≡ tree.bind (leftOf slots bound spent) (kindOf k ∷ [])
 unfolding keptOf leftOf pick
 kept-more slots spent bound more k at wide h e u =

@@ -42,7 +42,7 @@ slot-unbound (suc n) [] (suc i) h = slot-unbound n [] i (omega arith)
 slot-unbound (suc n) (x ∷ xs) (suc i) h = slot-unbound n xs i (omega arith)
 
 -- a slot changed
-pub slots-set : (n : ℕ) (xs : List Slot) (i : ℕ) (v : Slot) → i < length xs → slotsOf n (set xs i v) ≡ set (slotsOf n xs) i (slotOf v)
+slots-set : (n : ℕ) (xs : List Slot) (i : ℕ) (v : Slot) → i < length xs → slotsOf n (set xs i v) ≡ set (slotsOf n xs) i (slotOf v)
 unfolding slotsOf
 slots-set zero xs i v h = refl
 slots-set (suc n) [] i v h = absurd (omega arith)
@@ -88,7 +88,7 @@ spent-at (false ∷ bs) (x ∷ xs) zero = refl
 spent-at (true ∷ bs) (x ∷ xs) (suc i) = spent-at bs xs i
 spent-at (false ∷ bs) (x ∷ xs) (suc i) = spent-at bs xs i
 
-pub spent-with : (bs : List Bool) (xs : List Slot) (i : ℕ) → i < length bs → spentBy (set bs i true) xs ≡ set (spentBy bs xs) i (usedSlot (getD xs i unbound))
+spent-with : (bs : List Bool) (xs : List Slot) (i : ℕ) → i < length bs → spentBy (set bs i true) xs ≡ set (spentBy bs xs) i (usedSlot (getD xs i unbound))
 unfolding spentBy
 spent-with [] xs i h = absurd (omega arith)
 spent-with (true ∷ bs) [] zero h = refl

@@ -22,7 +22,6 @@ use Rattle.standing.specs.Bytes.{byteAt}
 use Rattle.standing.specs.Stands.{Listed}
 use Rattle.standing.specs.Table.{Sorts, Modes, mode-byte}
 use Rattle.checker.specs.declared.slots.Want.{Want}
-use Rattle.checker.specs.declared.slots.Want.the-variants as want
 use Rattle.checker.specs.declared.ownership.Taken.{Taken}
 use Rattle.checker.specs.OwnershipBits.{bitsOf}
 use Rattle.checker.specs.Slots.{kindOf, usedIn, slotOf, slotsOf, nowKind, spentBy, unbound, wantOf, spendsOf, testOf, wantAt}
@@ -34,7 +33,7 @@ use Rattle.checker.proofs.ownership.Spending.{slot-bound, slot-unbound,
 unfoldable pub told : List Slot → ℕ → Taken → Outcome tree.Slots
 told slots bound t = pick (eqb (t .number) 0) (ok (leftOf slots bound (t .spent))) (refuse (t .number) (t .place))
 
-pub told-on : {A : Type 0} (slots : List Slot) (bound : ℕ) (t : Taken) (o : Outcome A) (k : tree.Slots → Outcome A)
+told-on : {A : Type 0} (slots : List Slot) (bound : ℕ) (t : Taken) (o : Outcome A) (k : tree.Slots → Outcome A)
     → (eqb (t .number) 0 ≡ true → o ≡ k (leftOf slots bound (t .spent)))
     → pick (eqb (t .number) 0) o (refuse (t .number) (t .place)) ≡ then (told slots bound t) k
 unfolding told pick

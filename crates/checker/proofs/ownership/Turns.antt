@@ -105,7 +105,7 @@ module _ (bytes : List ℕ) (slots : List Slot) (bound scale : ℕ) where
       let e : n ≡ suc (n - 1) = omega arith in
       ap (λ k. listOf bytes slots bound scale k modes at earlier spent) e
 
-  pub list-unbound : (n modes at earlier spent i : ℕ) → 0 < n → i ≡ byteAt bytes at → bound ≤ i → listOf bytes slots bound scale n modes at earlier spent ≡ fault 7 at
+  list-unbound : (n modes at earlier spent i : ℕ) → 0 < n → i ≡ byteAt bytes at → bound ≤ i → listOf bytes slots bound scale n modes at earlier spent ≡ fault 7 at
   unfolding takeOf onFine pick
   list-unbound n modes at earlier spent i h e l =
       let q : leb bound (byteAt bytes at) ≡ true = le-leb bound (byteAt bytes at) (omega arith) in
@@ -119,10 +119,10 @@ module _ (bytes : List ℕ) (slots : List Slot) (bound scale : ℕ) where
         let q : leb bound i ≡ false = lt-leb bound i l in
         rw (← ei, ← eb, ← ew, ← er, q) (sym et)
 
-    pub list-stops : (t .number ≡ 0 → ⊥) → listOf bytes slots bound scale n modes at earlier spent ≡ t
+    list-stops : (t .number ≡ 0 → ⊥) → listOf bytes slots bound scale n modes at earlier spent ≡ t
     list-stops z = list-suc n modes at earlier spent h ∙ sym (on-stops t _ _ (sym taken-is) z)
 
-    pub list-turn : t .number ≡ 0 → (earlier′ : ℕ) → earlier′ ≡ bitOr earlier (2 ^ i)
+    list-turn : t .number ≡ 0 → (earlier′ : ℕ) → earlier′ ≡ bitOr earlier (2 ^ i)
         → listOf bytes slots bound scale n modes at earlier spent ≡ listOf bytes slots bound scale (n - 1) (modes + 1) (at + 1) earlier′ (t .spent)
     list-turn z earlier′ ee = list-suc n modes at earlier spent h ∙ sym (on-fine t _ _ _ (sym taken-is) z (rw (taken-is, ← ei, ← ee)))
 
@@ -132,7 +132,7 @@ module _ (bytes : List ℕ) (scale at : ℕ) where
   unfolding laidOf
   laid-end n modes bound out e = rw e
 
-  pub laid-turn : (n modes bound b : ℕ) (out : List Slot) (k : Kind) → 0 < n → b ≡ byteAt bytes modes → k ≡ kindAt (b * scale)
+  laid-turn : (n modes bound b : ℕ) (out : List Slot) (k : Kind) → 0 < n → b ≡ byteAt bytes modes → k ≡ kindAt (b * scale)
       → laidOf bytes scale at n modes bound out ≡ laidOf bytes scale at (n - 1) (modes + 1) (bound + 1) (set out bound (bound-slot k at))
   unfolding laidOf
   laid-turn n modes bound b out k h eb ek =

@@ -3,7 +3,6 @@ use borrow.Author.Needs.{needs}
 use Rattle.checker.proofs.bodies.plain_stands.Statement.{statement}
 use Rattle.checker.proofs.bodies.plain_stands.Tie as tie
 use mathlib.Core.Path.{sym, _∙_}
-use native.Mathlib.Omega.{arith}
 use borrow.Author.Tests.{lt-ltb, le-ltb, ne-eqb}
 use Rattle.meaning.specs.Choice.{pick}
 use Rattle.checker.specs.Bodies.{plainStands}

@@ -1,11 +1,6 @@
+-- `calls::closure` meets its contract. Assumes nothing.
 use Rattle.checker.proofs.calls.closure.Statement.{statement}
 use Rattle.checker.proofs.calls.closure.Tie as tie
-use Rattle.checker.proofs.calls.closure.Reads as reads
-use Rattle.checker.proofs.calls.closure.Lts as lts
-use Rattle.checker.proofs.calls.either.Reads as either-reads
-use Rattle.checker.proofs.calls.except.Reads as except-reads
-use Rattle.checker.proofs.calls.lowest.Reads as lowest-reads
-use Rattle.checker.proofs.calls.without_lowest.Reads as without-lowest-reads
 use borrow.Author.Needs.{needs}
 use Prim.Native.Nat.{ℕ, zero, suc, _+_, _-_, _≤_, _<_}
 use mathlib.Core.Path.{_≡_, refl, sym, ap, ap₂, _∙_}

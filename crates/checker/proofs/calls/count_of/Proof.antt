@@ -1,7 +1,6 @@
+-- `calls::count_of` meets its contract. Assumes nothing.
 use Rattle.checker.proofs.calls.count_of.Statement.{statement}
 use Rattle.checker.proofs.calls.count_of.Tie as tie
-use Rattle.checker.proofs.calls.count_of.Reads as reads
-use Rattle.checker.proofs.calls.count_of.Lts as lts
 use Rattle.checker.proofs.calls.Digits.{ones-bits}
 use lib.Count.{ones-le}
 use native.Mathlib.Omega.{arith}

@@ -1,7 +1,6 @@
+-- `calls::either` meets its contract. Assumes nothing.
 use Rattle.checker.proofs.calls.either.Statement.{statement}
 use Rattle.checker.proofs.calls.either.Tie as tie
-use Rattle.checker.proofs.calls.either.Reads as reads
-use Rattle.checker.proofs.calls.either.Lts as lts
 use Rattle.checker.proofs.calls.Digits.{or-bits}
 
 returns : tie.Need-returns

@@ -1,7 +1,6 @@
+-- `calls::except` meets its contract. Assumes nothing.
 use Rattle.checker.proofs.calls.except.Statement.{statement}
 use Rattle.checker.proofs.calls.except.Tie as tie
-use Rattle.checker.proofs.calls.except.Reads as reads
-use Rattle.checker.proofs.calls.except.Lts as lts
 use Rattle.checker.proofs.calls.Digits.{or-bits, xor-bits}
 use mathlib.Core.Path.{ap, _∙_}
 use Rattle.checker.specs.OwnershipBits.{bitsOf}

@@ -2,11 +2,6 @@
 use borrow.Author.Needs.{needs}
 use Rattle.checker.proofs.calls.judge.Statement.{statement}
 use Rattle.checker.proofs.calls.judge.Tie as tie
-use Rattle.checker.proofs.calls.judge.Reads as reads
-use Rattle.checker.proofs.calls.judge.Lts as lts
-use Rattle.checker.proofs.calls.count_of.Reads as count-of-reads
-use Rattle.checker.proofs.calls.settle.Reads as settle-reads
-use Rattle.checker.proofs.calls.visit.Reads as visit-reads
 use mathlib.Core.Path.{sym, subst}
 use Rattle.meaning.specs.Calls.{IsReached}
 use Rattle.checker.proofs.calls.Levels.{settled}

@@ -1,7 +1,6 @@
+-- `calls::lowest` meets its contract. Assumes nothing.
 use Rattle.checker.proofs.calls.lowest.Statement.{statement}
 use Rattle.checker.proofs.calls.lowest.Tie as tie
-use Rattle.checker.proofs.calls.lowest.Reads as reads
-use Rattle.checker.proofs.calls.lowest.Lts as lts
 use Rattle.checker.proofs.calls.Digits.{low-bit}
 use lib.Count.{trailing-le}
 

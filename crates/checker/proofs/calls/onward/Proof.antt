@@ -1,11 +1,6 @@
 -- `calls::onward` meets its contract. Assumes nothing.
 use Rattle.checker.proofs.calls.onward.Statement.{statement}
 use Rattle.checker.proofs.calls.onward.Tie as tie
-use Rattle.checker.proofs.calls.onward.Reads as reads
-use Rattle.checker.proofs.calls.onward.Lts as lts
-use Rattle.checker.proofs.calls.either.Reads as either-reads
-use Rattle.checker.proofs.calls.lowest.Reads as lowest-reads
-use Rattle.checker.proofs.calls.without_lowest.Reads as without-lowest-reads
 use borrow.Author.Needs.{needs}
 use Prim.Native.Nat.{ℕ, _+_, _-_, _≤_}
 use mathlib.Core.Path.{_≡_, sym, ap, _∙_}

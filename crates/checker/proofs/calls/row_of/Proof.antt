@@ -1,9 +1,7 @@
+-- `calls::row_of` meets its contract. Assumes nothing.
 use borrow.Author.Needs.{needs}
 use Rattle.checker.proofs.calls.row_of.Statement.{statement}
 use Rattle.checker.proofs.calls.row_of.Tie as tie
-use Rattle.checker.proofs.calls.row_of.Reads as reads
-use Rattle.checker.proofs.calls.row_of.Lts as lts
-use Rattle.checker.proofs.calls.put.Reads as put-reads
 use mathlib.Core.Path.{ap, _∙_}
 use Rattle.meaning.specs.declared.How.the-variants.{Waits}
 use Rattle.checker.specs.OwnershipBits.{bitsOf}

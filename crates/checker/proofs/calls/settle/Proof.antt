@@ -1,10 +1,6 @@
 -- `calls::settle` meets its contract. Assumes nothing.
 use Rattle.checker.proofs.calls.settle.Statement.{statement}
 use Rattle.checker.proofs.calls.settle.Tie as tie
-use Rattle.checker.proofs.calls.settle.Reads as reads
-use Rattle.checker.proofs.calls.settle.Lts as lts
-use Rattle.checker.proofs.calls.closure.Reads as closure-reads
-use Rattle.checker.proofs.calls.onward.Reads as onward-reads
 use borrow.Author.Needs.{needs}
 use Prim.Native.Nat.{ℕ, _-_, _≤_, _<_, _^_}
 use mathlib.Core.Path.{_≡_, sym, ap, _∙_, subst}

@@ -2,10 +2,6 @@
 use borrow.Author.Needs.{needs}
 use Rattle.checker.proofs.calls.shape_of.Statement.{statement}
 use Rattle.checker.proofs.calls.shape_of.Tie as tie
-use Rattle.checker.proofs.calls.shape_of.Reads as reads
-use Rattle.checker.proofs.calls.shape_of.Lts as lts
-use Rattle.checker.proofs.calls.judge.Reads as judge-reads
-use Rattle.checker.proofs.calls.square_of.Reads as square-of-reads
 use mathlib.Core.Path.{ap, _∙_}
 use Rattle.meaning.specs.Outcome.{ok}
 use Rattle.meaning.specs.Answers.{told}

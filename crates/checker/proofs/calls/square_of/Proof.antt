@@ -1,11 +1,6 @@
+-- `calls::square_of` meets its contract. Assumes nothing.
 use Rattle.checker.proofs.calls.square_of.Statement.{statement}
 use Rattle.checker.proofs.calls.square_of.Tie as tie
-use Rattle.checker.proofs.calls.square_of.Reads as reads
-use Rattle.checker.proofs.calls.square_of.Lts as lts
-use Rattle.checker.proofs.calls.either.Reads as either-reads
-use Rattle.checker.proofs.calls.row_of.Reads as row-of-reads
-use Rattle.checker.proofs.calls.tails_of.Reads as tails-of-reads
-use Rattle.checker.proofs.calls.waits_of.Reads as waits-of-reads
 use borrow.Author.Needs.{needs}
 use Prim.Native.Nat.{_+_, _-_, _≤_, _<_}
 use mathlib.Core.Path.{_≡_, refl, sym, subst, subst₂}

@@ -1,9 +1,8 @@
+-- `calls::tails_of` meets its contract. Assumes nothing.
 use borrow.Author.Needs.{needs}
 use Rattle.checker.proofs.calls.Halves.{high-half}
 use Rattle.checker.proofs.calls.tails_of.Statement.{statement}
 use Rattle.checker.proofs.calls.tails_of.Tie as tie
-use Rattle.checker.proofs.calls.tails_of.Reads as reads
-use Rattle.checker.proofs.calls.tails_of.Lts as lts
 
 cast-result : tie.Need-cast-result
 cast-result c = search needs

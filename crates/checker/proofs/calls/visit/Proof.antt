@@ -1,13 +1,6 @@
 -- `calls::visit` meets its contract. Assumes nothing.
 use Rattle.checker.proofs.calls.visit.Statement.{statement}
 use Rattle.checker.proofs.calls.visit.Tie as tie
-use Rattle.checker.proofs.calls.visit.Reads as reads
-use Rattle.checker.proofs.calls.visit.Lts as lts
-use Rattle.checker.proofs.calls.either.Reads as either-reads
-use Rattle.checker.proofs.calls.except.Reads as except-reads
-use Rattle.checker.proofs.calls.lowest.Reads as lowest-reads
-use Rattle.checker.proofs.calls.waiting.Reads as waiting-reads
-use Rattle.checker.proofs.calls.without_lowest.Reads as without-lowest-reads
 use borrow.Author.Needs.{needs}
 use Prim.Native.Nat.{_-_, _≤_, _<_}
 use mathlib.Core.Path.{_≡_, ap₂, _∙_}

@@ -1,12 +1,6 @@
 -- `calls::waiting` meets its contract. Assumes nothing.
 use Rattle.checker.proofs.calls.waiting.Statement.{statement}
 use Rattle.checker.proofs.calls.waiting.Tie as tie
-use Rattle.checker.proofs.calls.waiting.Reads as reads
-use Rattle.checker.proofs.calls.waiting.Lts as lts
-use Rattle.checker.proofs.calls.is_waiting.Reads as is-waiting-reads
-use Rattle.checker.proofs.calls.lowest.Reads as lowest-reads
-use Rattle.checker.proofs.calls.with.Reads as with-reads
-use Rattle.checker.proofs.calls.without_lowest.Reads as without-lowest-reads
 use borrow.Author.Needs.{needs}
 use Prim.Native.Nat.{ℕ, _+_, _-_, _≤_, _<_}
 use mathlib.Core.Path.{_≡_, sym, ap, _∙_}

@@ -1,8 +1,7 @@
+-- `calls::with` meets its contract. Assumes nothing.
 use borrow.Author.Needs.{needs}
 use Rattle.checker.proofs.calls.with.Statement.{statement}
 use Rattle.checker.proofs.calls.with.Tie as tie
-use Rattle.checker.proofs.calls.with.Reads as reads
-use Rattle.checker.proofs.calls.with.Lts as lts
 use Rattle.checker.proofs.calls.Digits.{or-bit}
 use native.Mathlib.Omega.{arith}
 use lib.Pow.{shl-exact}

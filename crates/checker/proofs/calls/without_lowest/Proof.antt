@@ -1,8 +1,7 @@
+-- `calls::without_lowest` meets its contract. Assumes nothing.
 use borrow.Author.Needs.{needs}
 use Rattle.checker.proofs.calls.without_lowest.Statement.{statement}
 use Rattle.checker.proofs.calls.without_lowest.Tie as tie
-use Rattle.checker.proofs.calls.without_lowest.Reads as reads
-use Rattle.checker.proofs.calls.without_lowest.Lts as lts
 use Rattle.checker.proofs.calls.Digits.{and-low}
 
 sub-result : tie.Need-sub-result

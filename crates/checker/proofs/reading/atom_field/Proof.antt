@@ -2,8 +2,6 @@
 use borrow.Author.Needs.{needs}
 use Rattle.checker.proofs.reading.atom_field.Statement.{statement}
 use Rattle.checker.proofs.reading.atom_field.Tie as tie
-use Rattle.checker.proofs.reading.atom_field.Reads as reads
-use Rattle.checker.proofs.reading.atom_field.Lts as lts
 use borrow.Author.Tests.{le-leb, lt-leb, eq-eqb, ne-eqb}
 use Rattle.meaning.specs.Choice.{pick}
 use Rattle.checker.specs.ReadingBytes.{atomField}

@@ -2,8 +2,6 @@
 use borrow.Author.Needs.{needs}
 use Rattle.checker.proofs.reading.binds.Statement.{statement}
 use Rattle.checker.proofs.reading.binds.Tie as tie
-use Rattle.checker.proofs.reading.binds.Reads as reads
-use Rattle.checker.proofs.reading.binds.Lts as lts
 use mathlib.Core.Path.{sym, ap, subst, _∙_}
 use Rattle.checker.specs.ReadingBytes.{bindsOf}
 use Rattle.meaning.proofs.Table.{row-small}

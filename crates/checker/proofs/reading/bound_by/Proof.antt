@@ -2,8 +2,6 @@
 use borrow.Author.Needs.{needs}
 use Rattle.checker.proofs.reading.bound_by.Statement.{statement}
 use Rattle.checker.proofs.reading.bound_by.Tie as tie
-use Rattle.checker.proofs.reading.bound_by.Reads as reads
-use Rattle.checker.proofs.reading.bound_by.Lts as lts
 use borrow.Author.Tests.{eq-eqb, ne-eqb}
 use native.Mathlib.Omega.{arith}
 use Rattle.meaning.specs.Choice.{pick}

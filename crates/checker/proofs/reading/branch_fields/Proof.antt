@@ -2,8 +2,6 @@
 use borrow.Author.Needs.{needs}
 use Rattle.checker.proofs.reading.branch_fields.Statement.{statement}
 use Rattle.checker.proofs.reading.branch_fields.Tie as tie
-use Rattle.checker.proofs.reading.branch_fields.Reads as reads
-use Rattle.checker.proofs.reading.branch_fields.Lts as lts
 use borrow.Author.Tests.{le-leb, lt-leb, lt-ltb, le-ltb}
 use native.Mathlib.Omega.{arith}
 use Rattle.meaning.specs.Choice.{pick}

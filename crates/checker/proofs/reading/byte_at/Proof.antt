@@ -2,8 +2,6 @@
 use borrow.Author.Needs.{needs}
 use Rattle.checker.proofs.reading.byte_at.Statement.{statement}
 use Rattle.checker.proofs.reading.byte_at.Tie as tie
-use Rattle.checker.proofs.reading.byte_at.Reads as reads
-use Rattle.checker.proofs.reading.byte_at.Lts as lts
 use mathlib.Core.Path.{sym}
 use lib.ListN.{List·getD-eq-default}
 

@@ -2,8 +2,6 @@
 use borrow.Author.Needs.{needs}
 use Rattle.checker.proofs.reading.expect_mark.Statement.{statement}
 use Rattle.checker.proofs.reading.expect_mark.Tie as tie
-use Rattle.checker.proofs.reading.expect_mark.Reads as reads
-use Rattle.checker.proofs.reading.expect_mark.Lts as lts
 use borrow.Author.Tests.{lt-ltb, le-ltb, eq-eqb, ne-eqb}
 use Rattle.meaning.specs.Choice.{pick}
 use Rattle.checker.specs.ReadingBytes.{expectAt}

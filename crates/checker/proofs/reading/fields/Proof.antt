@@ -2,8 +2,6 @@
 use borrow.Author.Needs.{needs}
 use Rattle.checker.proofs.reading.fields.Statement.{statement}
 use Rattle.checker.proofs.reading.fields.Tie as tie
-use Rattle.checker.proofs.reading.fields.Reads as reads
-use Rattle.checker.proofs.reading.fields.Lts as lts
 use borrow.Author.Tests.{ne-eqb}
 use Rattle.meaning.specs.Choice.{pick}
 use Rattle.checker.specs.ReadingBytes.{fieldsAt}

@@ -1,8 +1,6 @@
 -- `reading::finish` meets its contract. Assumes nothing.
 use Rattle.checker.proofs.reading.finish.Statement.{statement}
 use Rattle.checker.proofs.reading.finish.Tie as tie
-use Rattle.checker.proofs.reading.finish.Reads as reads
-use Rattle.checker.proofs.reading.finish.Lts as lts
 use borrow.Author.Tests.{lt-ltb, le-ltb}
 use Rattle.meaning.specs.Choice.{pick}
 use Rattle.checker.specs.ReadingBytes.{finishAt}

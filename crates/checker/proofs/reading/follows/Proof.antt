@@ -2,8 +2,6 @@
 use borrow.Author.Needs.{needs}
 use Rattle.checker.proofs.reading.follows.Statement.{statement}
 use Rattle.checker.proofs.reading.follows.Tie as tie
-use Rattle.checker.proofs.reading.follows.Reads as reads
-use Rattle.checker.proofs.reading.follows.Lts as lts
 use borrow.Author.Tests.{ne-eqb}
 use Rattle.meaning.specs.Choice.{pick}
 use Rattle.checker.specs.ReadingBytes.{followsAt}

@@ -2,10 +2,6 @@
 use borrow.Author.Needs.{needs}
 use Rattle.checker.proofs.reading.limits.Statement.{statement}
 use Rattle.checker.proofs.reading.limits.Tie as tie
-use Rattle.checker.proofs.reading.limits.Reads as reads
-use Rattle.checker.proofs.reading.limits.Lts as lts
-use Rattle.checker.proofs.reading.binds.Reads as binds-reads
-use Rattle.checker.proofs.reading.follows.Reads as follows-reads
 use borrow.Author.Tests.{le-leb, lt-leb, lt-ltb, le-ltb}
 use Rattle.meaning.specs.Choice.{pick}
 use Rattle.checker.specs.ReadingBytes.{limited}

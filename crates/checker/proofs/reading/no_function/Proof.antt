@@ -2,8 +2,6 @@
 use borrow.Author.Needs.{needs}
 use Rattle.checker.proofs.reading.no_function.Statement.{statement}
 use Rattle.checker.proofs.reading.no_function.Tie as tie
-use Rattle.checker.proofs.reading.no_function.Reads as reads
-use Rattle.checker.proofs.reading.no_function.Lts as lts
 use native.Mathlib.Omega.{arith}
 use Rattle.checker.proofs.reading.Body.{none-short, none-here, ends-at}
 

@@ -2,8 +2,6 @@
 use borrow.Author.Needs.{needs}
 use Rattle.checker.proofs.reading.params.Statement.{statement}
 use Rattle.checker.proofs.reading.params.Tie as tie
-use Rattle.checker.proofs.reading.params.Reads as reads
-use Rattle.checker.proofs.reading.params.Lts as lts
 use borrow.Author.Tests.{lt-ltb, le-ltb}
 use Rattle.meaning.specs.Choice.{pick}
 use Rattle.checker.specs.ReadingBytes.{knownCount}

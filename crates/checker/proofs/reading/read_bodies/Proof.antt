@@ -1,8 +1,6 @@
 -- `reading::read_bodies` meets its contract. Assumes nothing.
 use Rattle.checker.proofs.reading.read_bodies.Statement.{statement}
 use Rattle.checker.proofs.reading.read_bodies.Tie as tie
-use Rattle.checker.proofs.reading.read_bodies.Reads as reads
-use Rattle.checker.proofs.reading.read_bodies.Lts as lts
 use native.Mathlib.Omega.{arith}
 use mathlib.Core.Path.{sym, subst, _∙_}
 use Prim.Native.Nat.{_≤_, _-_}

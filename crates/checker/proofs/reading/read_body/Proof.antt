@@ -2,8 +2,6 @@
 use borrow.Author.Needs.{needs}
 use Rattle.checker.proofs.reading.read_body.Statement.{statement}
 use Rattle.checker.proofs.reading.read_body.Tie as tie
-use Rattle.checker.proofs.reading.read_body.Reads as reads
-use Rattle.checker.proofs.reading.read_body.Lts as lts
 use native.Mathlib.Omega.{arith}
 use mathlib.Core.Path.{refl, sym, _∙_}
 use mathlib.Core.Logic.{inl, inr}

@@ -2,8 +2,6 @@
 use borrow.Author.Needs.{needs}
 use Rattle.checker.proofs.reading.read_branch.Statement.{statement}
 use Rattle.checker.proofs.reading.read_branch.Tie as tie
-use Rattle.checker.proofs.reading.read_branch.Reads as reads
-use Rattle.checker.proofs.reading.read_branch.Lts as lts
 use borrow.Author.Tests.{lt-ltb, le-ltb, eq-eqb, ne-eqb}
 use Rattle.meaning.specs.Choice.{pick}
 use Rattle.checker.specs.ReadingBytes.{branchBy}

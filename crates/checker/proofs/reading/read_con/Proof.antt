@@ -2,8 +2,6 @@
 use borrow.Author.Needs.{needs}
 use Rattle.checker.proofs.reading.read_con.Statement.{statement}
 use Rattle.checker.proofs.reading.read_con.Tie as tie
-use Rattle.checker.proofs.reading.read_con.Reads as reads
-use Rattle.checker.proofs.reading.read_con.Lts as lts
 use borrow.Author.Tests.{le-leb, lt-leb, lt-ltb, le-ltb}
 use Rattle.meaning.specs.Choice.{pick}
 use Rattle.checker.specs.ReadingBytes.{conAt}

@@ -1,8 +1,6 @@
 -- `reading::read_cons` meets its contract. Assumes nothing.
 use Rattle.checker.proofs.reading.read_cons.Statement.{statement}
 use Rattle.checker.proofs.reading.read_cons.Tie as tie
-use Rattle.checker.proofs.reading.read_cons.Reads as reads
-use Rattle.checker.proofs.reading.read_cons.Lts as lts
 use native.Mathlib.Omega.{arith}
 use mathlib.Core.Path.{refl, sym, _∙_}
 use mathlib.Core.Logic.{inl, inr}

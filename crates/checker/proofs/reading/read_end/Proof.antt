@@ -2,8 +2,6 @@
 use borrow.Author.Needs.{needs}
 use Rattle.checker.proofs.reading.read_end.Statement.{statement}
 use Rattle.checker.proofs.reading.read_end.Tie as tie
-use Rattle.checker.proofs.reading.read_end.Reads as reads
-use Rattle.checker.proofs.reading.read_end.Lts as lts
 use mathlib.Core.Path.{sym, _∙_}
 use Rattle.checker.specs.ReadingBytes.{onNext, endAt}
 use Prim.Native.Nat.{_-_}

@@ -1,8 +1,6 @@
 -- `reading::read_file` meets its contract. Assumes nothing.
 use Rattle.checker.proofs.reading.read_file.Statement.{statement}
 use Rattle.checker.proofs.reading.read_file.Tie as tie
-use Rattle.checker.proofs.reading.read_file.Reads as reads
-use Rattle.checker.proofs.reading.read_file.Lts as lts
 use mathlib.Core.Path.{refl, sym, _∙_}
 use Rattle.checker.proofs.reading.Tabled.{table-blank}
 use Rattle.checker.proofs.reading.Filed.{ends-long}

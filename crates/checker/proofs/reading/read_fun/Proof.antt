@@ -2,8 +2,6 @@
 use borrow.Author.Needs.{needs}
 use Rattle.checker.proofs.reading.read_fun.Statement.{statement}
 use Rattle.checker.proofs.reading.read_fun.Tie as tie
-use Rattle.checker.proofs.reading.read_fun.Reads as reads
-use Rattle.checker.proofs.reading.read_fun.Lts as lts
 use borrow.Author.Tests.{le-leb, lt-leb, lt-ltb, le-ltb}
 use native.Mathlib.Omega.{arith}
 use mathlib.Core.Path.{sym, _∙_}

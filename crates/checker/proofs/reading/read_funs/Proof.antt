@@ -1,8 +1,6 @@
 -- `reading::read_funs` meets its contract. Assumes nothing.
 use Rattle.checker.proofs.reading.read_funs.Statement.{statement}
 use Rattle.checker.proofs.reading.read_funs.Tie as tie
-use Rattle.checker.proofs.reading.read_funs.Reads as reads
-use Rattle.checker.proofs.reading.read_funs.Lts as lts
 use native.Mathlib.Omega.{arith}
 use mathlib.Core.Path.{_≡_, refl, sym, _∙_}
 use mathlib.Core.Logic.{inl, inr}

@@ -2,12 +2,6 @@
 use borrow.Author.Needs.{needs}
 use Rattle.checker.proofs.reading.read_node.Statement.{statement}
 use Rattle.checker.proofs.reading.read_node.Tie as tie
-use Rattle.checker.proofs.reading.read_node.Reads as reads
-use Rattle.checker.proofs.reading.read_node.Lts as lts
-use Rattle.checker.proofs.reading.fields.Reads as fields-reads
-use Rattle.checker.proofs.reading.limits.Reads as limits-reads
-use Rattle.checker.proofs.reading.pair.Reads as pair-reads
-use Rattle.meaning.proofs.find_mark.Reads as find-mark-reads
 use borrow.Author.Tests.{lt-ltb, le-ltb}
 use Rattle.meaning.specs.Choice.{pick}
 use Rattle.checker.specs.ReadingBytes.{nodeAt, nodeOf, afterFields}

@@ -1,8 +1,6 @@
 -- `reading::small_bytes` meets its contract. Assumes nothing.
 use Rattle.checker.proofs.reading.small_bytes.Statement.{statement}
 use Rattle.checker.proofs.reading.small_bytes.Tie as tie
-use Rattle.checker.proofs.reading.small_bytes.Reads as reads
-use Rattle.checker.proofs.reading.small_bytes.Lts as lts
 use borrow.Author.Tests.{le-leb, lt-leb, lt-ltb, le-ltb}
 use native.Mathlib.Omega.{arith}
 use mathlib.Core.Path.{_≡_, sym, _∙_}
