@@ -2,8 +2,8 @@
 use meaning::Kind;
 use meaning::Slot;
 ghost use mathlib.Core.Path.{_≡_};
-ghost use mathlib.Core.Bool.{true, false};
-ghost use Prim.Native.Nat.{_+_, _^_, _<_, _≤_};
+ghost use mathlib.Core.Bool.{false};
+ghost use Prim.Native.Nat.{_^_, _<_, _≤_};
 ghost use lib.ListN.{set, getD, replicate};
 ghost use lib.Bits.{bitOr};
 ghost use Rattle.meaning.specs.Sets.{first};

@@ -1,6 +1,6 @@
 // Checking and running for programs in other languages, with verdict and answer as words.
 ghost use mathlib.Core.Path.{_≡_};
-ghost use Rattle.meaning.specs.Answers.{verdictOf, runOf, ended};
+ghost use Rattle.meaning.specs.Answers.{verdictOf, runOf};
 ghost use Rattle.meaning.specs.Answers as answers;
 ghost use Rattle.export.specs.Words.{verdict-words, answer-words, Ran};
 use meaning::Answer;

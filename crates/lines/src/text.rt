@@ -1,7 +1,7 @@
 // Texts and numbers laid into a line's room, each behind the one before.
 ghost use mathlib.Core.Path.{_≡_};
 ghost use mathlib.Core.List.{_++_};
-ghost use Prim.Native.Nat.{_+_, _<_, _≤_};
+ghost use Prim.Native.Nat.{_+_, _≤_};
 ghost use lib.ListN.{length};
 ghost use Rattle.meaning.specs.Answers as answers;
 ghost use Rattle.meaning.specs.Lines.{ascii, digits, verdict-line, answer-line, newline};

@@ -1,25 +1,25 @@
 -- What the pieces of `run` come to together: what was judged, the sizes, the start and the steps give `runOf`. Assumes nothing.
-use Prim.Native.Nat.{ℕ, zero, suc, _+_, _-_, _/_, _%_, _≤_, _<_}
+use Prim.Native.Nat.{ℕ, _+_, _-_, _/_, _%_, _≤_, _<_}
 use mathlib.Core.Bool.{Bool, true, false}
 use mathlib.Core.List.{List, _++_}
 use mathlib.Core.Path.{_≡_, refl, sym, ap, _∙_, subst}
 use mathlib.Core.Logic.{_⊎_, inl, inr, ⊎-elim}
 use native.Mathlib.Omega.{arith}
 use lib.ListN.{length, drop, getD, replicate}
-use lib.Dec.{eqb, ltb, leb}
-use borrow.Author.Tests.{eqb-true, eqb-false, ltb-true, ltb-false, leb-true, leb-false, eq-eqb, ne-eqb}
+use lib.Dec.{eqb, ltb}
+use borrow.Author.Tests.{eqb-true, eqb-false, ltb-true, ltb-false, eq-eqb, ne-eqb}
 use Rattle.meaning.specs.Choice.{pick}
 use Rattle.meaning.specs.declared.Answer.{Answer}
 use Rattle.meaning.specs.Syntax.{File}
 use Rattle.meaning.specs.Outcome.{Outcome, ok, refuse}
 use Rattle.meaning.specs.Verdict.{accepted}
-use Rattle.meaning.specs.Machine.{Store, function-of, run}
+use Rattle.meaning.specs.Machine.{function-of, run}
 use Rattle.meaning.specs.InPlace.{begins}
 use Rattle.meaning.specs.Start.{start}
 use Rattle.meaning.specs.Answers.{wiped, ended, runOf}
 use Rattle.theory.proofs.Taking.{refused}
 use Rattle.theory.proofs.Started.{accepted-started}
-use Rattle.theory.proofs.StartExact.{Unfit, Miscounted, start-20, start-21, start-answers}
+use Rattle.theory.proofs.StartExact.{Unfit, start-20, start-21, start-answers}
 use Rattle.theory.proofs.Running.{refusal, refused-file, refused-size, refused-start, executed}
 use Rattle.standing.specs.Bytes.{paramsIn}
 use Rattle.standing.specs.Table.{Declared}

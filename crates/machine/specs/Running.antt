@@ -1,6 +1,6 @@
 -- What `run` is made of: the sizes, and a start that is to be tested. Assumes nothing.
-use Prim.Native.Nat.{ℕ, _%_, _*_, _≤_}
-use mathlib.Core.Bool.{Bool, true, false}
+use Prim.Native.Nat.{ℕ, _%_, _≤_}
+use mathlib.Core.Bool.{Bool, true}
 use mathlib.Core.List.{List}
 use mathlib.Core.Path.{_≡_}
 use lib.ListN.{length}
@@ -10,7 +10,6 @@ use Rattle.meaning.specs.declared.Answer.{Answer}
 use Rattle.meaning.specs.Syntax.{File}
 use Rattle.meaning.specs.Outcome.{ok}
 use Rattle.meaning.specs.Verdict.{accepted}
-use Rattle.meaning.specs.Machine.{function-of}
 use Rattle.meaning.specs.Answers.{endOf}
 use Rattle.standing.specs.Bytes.{paramsIn}
 use Rattle.standing.specs.Table.{Declared}

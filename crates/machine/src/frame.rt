@@ -3,7 +3,7 @@
 // 1088 on lie the ends of the terms that were passed over.
 ghost use mathlib.Core.Bool.{true};
 ghost use mathlib.Core.Path.{_≡_};
-ghost use Prim.Native.Nat.{_+_, _*_, _<_, _≤_};
+ghost use Prim.Native.Nat.{_+_, _<_, _≤_};
 ghost use lib.ListN.{length, replicate};
 ghost use Rattle.standing.specs.Bytes.{byteAt};
 ghost use Rattle.machine.specs.Layout.{slotIn, top, moved, ended, bound, laid, gathered, words, Rising, Apart};

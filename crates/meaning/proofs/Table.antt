@@ -8,7 +8,7 @@ use lib.ListN.{getD, List·getD-eq-default}
 use borrow.Author.Tests.{eqb-true, eqb-false}
 use native.Mathlib.Omega.{arith}
 use Rattle.meaning.specs.declared.MarkRow.{MarkRow}
-use Rattle.meaning.specs.Marks.{Mark, CN, FN, BD, ND, GV, AT, MK, CL, TL, OP, LK, BR, NU, AR, IF, other, marks, find, row, rows, rowAt, numberOf, markOf, findMark}
+use Rattle.meaning.specs.Marks.{Mark, other, marks, find, row, rows, rowAt, numberOf, markOf, findMark}
 
 abbrev all-binds : List MarkRow → ℕ
 all-binds [] = 0

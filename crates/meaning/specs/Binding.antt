@@ -1,6 +1,6 @@
 -- What a record binds: the kinds of things that slots (in the derivation: variables) stand for. Shared by the ownership check and the derivation
 -- rules, which share nothing else. Assumes nothing.
-use Prim.Native.Nat.{ℕ, zero, suc}
+use Prim.Native.Nat.{ℕ, suc}
 use mathlib.Core.List.{List, [], _∷_, _++_, map}
 use lib.ListN.{length}
 use Rattle.meaning.specs.Syntax.{Sort, Mode, Signature, Constructor}

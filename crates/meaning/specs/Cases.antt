@@ -1,16 +1,16 @@
 -- Document 01's proved cases, P1 to P14, P11's start with budget 0 (M-103), and the ends of AR's range (M-101): one table, one theorem about the definitions over it.
 -- Assumes nothing.
-use Prim.Native.Nat.{ℕ, zero, suc, _+_, _*_}
+use Prim.Native.Nat.{ℕ, _+_}
 use mathlib.Core.List.{List, [], _∷_, _++_, map}
 use mathlib.Core.Path.{_≡_, refl}
-use lib.ListN.{length, set, drop, take, replicate}
+use lib.ListN.{set, drop, take, replicate}
 use Rattle.meaning.specs.declared.Verdict.{Verdict}
 use Rattle.meaning.specs.declared.Verdict.the-variants as verdicts
 use Rattle.meaning.specs.declared.End.{End}
 use Rattle.meaning.specs.declared.End.the-variants as ends
 use Rattle.meaning.specs.declared.Answer.{Answer}
 use Rattle.meaning.specs.Choice.{pick}
-use Rattle.meaning.specs.Reading.{read, header, entry, bodies, finish, signature, constructor, term, node as read-node, branches, limits, declared, mode, sort, expect, mark, times, below}
+use Rattle.meaning.specs.Reading.{read, header, entry, bodies, finish, signature, constructor, term, node as read-node, limits, declared, mode, sort, expect, mark, times, below}
 use Rattle.meaning.specs.Ownership.{check, pass, check-bodies, check-file}
 use Rattle.meaning.specs.Ownership as O
 use Rattle.meaning.specs.Calls.{shape, calls, calls-from, square, fill, no-calls, row, visits, start as start-set, reach, best, relax, rounds, same, settle, judge}

@@ -1,8 +1,8 @@
 -- "The fifteen marks and their fixed fields stand in one table": each record's mark, the count of its fixed fields in bytes, and
 -- the count of slots that it binds. The code's own table is this one (`mark_row`), and every pass looks it up. Assumes nothing.
-use Prim.Native.Nat.{ℕ, zero, suc}
-use mathlib.Core.Bool.{Bool, true, false}
-use mathlib.Core.List.{List, [], _∷_, map}
+use Prim.Native.Nat.{ℕ}
+use mathlib.Core.Bool.{true, false}
+use mathlib.Core.List.{List, [], _∷_}
 use lib.ListN.{getD}
 use lib.Dec.{eqb}
 use Rattle.meaning.specs.declared.MarkRow.{MarkRow}

@@ -1,11 +1,11 @@
 -- The runs among the proved cases that start (P11, P13, P14, P11's start with budget 0, the ends of AR's range), on plain trees and on the machine. Assumes nothing.
-use Prim.Native.Nat.{ℕ, zero, suc, _+_, _*_}
-use mathlib.Core.List.{List, [], _∷_, _++_, map}
+use Prim.Native.Nat.{ℕ}
+use mathlib.Core.List.{List, [], _∷_, map}
 use mathlib.Core.Path.{_≡_, refl}
-use lib.ListN.{set, drop, take}
+use lib.ListN.{take}
 use Rattle.meaning.specs.Choice.{pick}
-use Rattle.meaning.specs.Outcome.{Outcome, ok, refuse, then}
-use Rattle.meaning.specs.Reading.{read, header, entry, bodies, finish, signature, constructor, term, node as read-node, branches, limits, declared, mode, sort, expect, mark, times, below}
+use Rattle.meaning.specs.Outcome.{Outcome, ok, then}
+use Rattle.meaning.specs.Reading.{read, header, entry, bodies, finish, signature, constructor, term, node as read-node, limits, declared, mode, sort, expect, mark, times, below}
 use Rattle.meaning.specs.Ownership.{check, pass, check-bodies, check-file}
 use Rattle.meaning.specs.Ownership as O
 use Rattle.meaning.specs.Verdict.{accepted}
@@ -13,7 +13,7 @@ use Rattle.meaning.specs.Machine.{Store, step, run, function-of}
 use Rattle.meaning.specs.Walk.{visit, visits, drain}
 use Rattle.meaning.specs.Start.{start, answer-to, first, owned-walk, all-walk, free-walk}
 use Rattle.meaning.specs.Decode.{tree, plain-args, as-plain}
-use Rattle.meaning.specs.Plain.{Value, number, node, values, empty, more, Run, value, stop, eval, evaluate}
+use Rattle.meaning.specs.Plain.{Value, number, node, empty, more, Run, value, stop, eval, evaluate}
 use Rattle.meaning.specs.Cases.{reversal, one-branch, waiting, operating, two-cells}
 
 pub record Start : Type 0 where

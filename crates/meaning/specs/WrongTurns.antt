@@ -1,9 +1,9 @@
 -- Document 01's wrong turns to close off, each by a file or a start that a wrong definition would answer otherwise, and a run cut short: one
 -- table, one theorem. Assumes nothing.
-use Prim.Native.Nat.{ℕ, zero, suc, _+_, _*_}
+use Prim.Native.Nat.{ℕ, _+_}
 use mathlib.Core.List.{List, [], _∷_, _++_, map}
 use mathlib.Core.Path.{_≡_, refl}
-use lib.ListN.{length, set, drop, take, replicate}
+use lib.ListN.{drop, take}
 use Rattle.meaning.specs.declared.Verdict.the-variants as verdicts
 use Rattle.meaning.specs.declared.End.the-variants as ends
 use Rattle.meaning.specs.Choice.{pick}
@@ -14,7 +14,7 @@ use Rattle.meaning.specs.Calls.{shape, calls, calls-from, square, fill, 
 use Rattle.meaning.specs.Sets.{upto, first as smallest, how-many, zip}
 use Rattle.meaning.specs.Verdict.{accepted}
 use Rattle.meaning.specs.Verdict as checking
-use Rattle.meaning.specs.Machine.{Store, step, run}
+use Rattle.meaning.specs.Machine.{step, run}
 use Rattle.meaning.specs.Walk.{visit, drain}
 use Rattle.meaning.specs.Walk as W
 use Rattle.meaning.specs.Start.{start, answer-to, first, owned-walk, all-walk, free-walk}

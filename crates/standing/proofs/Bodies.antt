@@ -8,12 +8,12 @@ use lib.Seq.{drop-cons}
 use lib.Dec.{leb, eqb}
 use native.Mathlib.Omega.{arith}
 use borrow.Author.Tests.{leb-true, leb-false, eqb-true}
-use Rattle.meaning.specs.Syntax.{Signature, Constructor, Term, File}
-use Rattle.meaning.specs.Outcome.{Outcome, ok, refuse, then}
-use Rattle.meaning.specs.Reading.{Reader, ensure, expect, finish, between, term, bodies}
+use Rattle.meaning.specs.Syntax.{Signature, Term, File}
+use Rattle.meaning.specs.Outcome.{Outcome, then}
+use Rattle.meaning.specs.Reading.{ensure, expect, finish, between, term, bodies}
 use Rattle.meaning.specs.Ownership.{no-function}
 use Rattle.meaning.specs.Plain.{place-of, no-body}
-use Rattle.standing.specs.Bytes.{byteAt, markAt}
+use Rattle.standing.specs.Bytes.{markAt}
 use Rattle.standing.specs.Stands.{Stands}
 use Rattle.standing.proofs.Readers.{ensure-gen, two-gen}
 use Rattle.standing.proofs.Stood.{Stood, stood, refused, on-with}

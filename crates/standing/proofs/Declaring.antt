@@ -1,21 +1,21 @@
 -- A file that is read stands in its bytes as its table says. Assumes nothing.
-use Prim.Native.Nat.{ℕ, zero, suc, _+_, _-_, _*_, _/_, _%_, _≤_, _<_}
+use Prim.Native.Nat.{ℕ, zero, suc, _+_, _-_, _*_, _≤_, _<_}
 use mathlib.Core.List.{List, [], _∷_, _++_, map}
-use mathlib.Core.Path.{_≡_, refl, sym, ap, _∙_, subst}
+use mathlib.Core.Path.{_≡_, refl, sym, _∙_, subst}
 use lib.ListN.{length, drop, getD, length-append, length-map, List·getD-append, List·getD-map}
 use native.Mathlib.Omega.{arith}
-use Rattle.meaning.specs.Syntax.{Sort, Mode, Signature, Constructor, Term, File}
-use Rattle.meaning.specs.Outcome.{Outcome, ok, refuse}
+use Rattle.meaning.specs.Syntax.{Term, File}
+use Rattle.meaning.specs.Outcome.{ok}
 use Rattle.meaning.specs.Reading.{bodies, read}
 use Rattle.meaning.specs.Ownership.{no-function}
 use Rattle.meaning.specs.Plain.{place-of, no-body}
 use Rattle.meaning.specs.Machine.{function-of, body-of}
-use Rattle.standing.specs.Bytes.{byteAt, markAt, arityIn, fieldsIn, paramsIn, modesIn, bodyIn}
-use Rattle.standing.specs.Stands.{arity, Stands}
-use Rattle.standing.specs.Table.{con-words, con-end, fun-words, fun-end, filled, tableOf, sort-byte, Sorts, Modes, Declared}
+use Rattle.standing.specs.Bytes.{byteAt, arityIn, fieldsIn, paramsIn, modesIn, bodyIn}
+use Rattle.standing.specs.Stands.{arity}
+use Rattle.standing.specs.Table.{con-words, con-end, fun-words, filled, tableOf, sort-byte, Sorts, Modes, Declared}
 use Rattle.standing.proofs.Stood.{Stood, got}
 use Rattle.standing.proofs.Records.{FunAt}
-use Rattle.standing.proofs.Heads.{Cons, Funs, Heads, Opened, read-opened}
+use Rattle.standing.proofs.Heads.{Opened, read-opened}
 use Rattle.standing.proofs.Bodies.{Laid, bodies-stood, ends-of, each-stands, each-inside, laid-many, laid-first}
 use Rattle.standing.proofs.Words.{filled-length, filled-given, filled-none, past, Fit, fit-append, fit-filled, con-many, con-word, con-small, con-fit, fun-many, fun-word, fun-small, fun-fit}
 

@@ -1,8 +1,7 @@
 -- A term that stands in the bytes ends at one place only. Assumes nothing.
-use Prim.Native.Nat.{ℕ, zero, suc, _+_}
+use Prim.Native.Nat.{ℕ}
 use mathlib.Core.List.{List}
-use mathlib.Core.Path.{_≡_, refl, sym, ap, _∙_}
-use lib.ListN.{length}
+use mathlib.Core.Path.{_≡_, refl, sym, _∙_}
 use Rattle.meaning.specs.Syntax.{Constructor, Term, Branches, File}
 use Rattle.standing.specs.Stands.{Stands, Each, GV, AT, MK, CL, TL, OP, LK, NU, AR, IF, end, BR}
 

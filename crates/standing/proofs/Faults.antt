@@ -1,13 +1,12 @@
 -- Where the ownership check refuses a file that stands in its bytes: within the file. Assumes nothing.
-use Prim.Native.Nat.{ℕ, zero, suc, _+_, _≤_, _<_}
+use Prim.Native.Nat.{ℕ, suc, _+_, _≤_, _<_}
 use mathlib.Core.Bool.{Bool, true, false, not, _&&_, _||_}
-use mathlib.Core.List.{List, [], _∷_, _++_, map}
+use mathlib.Core.List.{List, [], _∷_, map}
 use mathlib.Core.Option.{Option, none, some}
-use mathlib.Core.Path.{_≡_, refl, subst, ap}
+use mathlib.Core.Path.{_≡_}
 use native.Mathlib.Omega.{arith}
 use lib.ListN.{length, getElem?, getD}
 use Rattle.meaning.specs.Syntax.{Sort, Mode, Signature, Term, Branches, Constructor, File}
-use Rattle.meaning.specs.Syntax as S
 use Rattle.meaning.specs.Outcome.{Outcome, ok, refuse, then, require, present}
 use Rattle.meaning.specs.Machine.{function-of}
 use Rattle.meaning.specs.Plain.{no-body}

@@ -3,18 +3,18 @@ use Prim.Native.Nat.{ℕ, zero, suc, _+_, _*_, _≤_, _<_}
 use mathlib.Core.List.{List, [], _∷_, _++_}
 use mathlib.Core.Bool.{Bool, true, false}
 use mathlib.Core.Path.{_≡_, refl, sym, ap, _∙_, subst}
-use lib.ListN.{length, drop, getD, length-append}
+use lib.ListN.{length, drop, length-append}
 use lib.Dec.{leb, ltb}
 use native.Mathlib.Omega.{arith}
 use borrow.Author.Tests.{ltb-true, leb-true}
-use Rattle.meaning.specs.Syntax.{Sort, Mode, Signature, Constructor, Term, File}
+use Rattle.meaning.specs.Syntax.{Signature, Constructor, Term, File}
 use Rattle.meaning.specs.Outcome.{Outcome, ok, refuse, then}
 use Rattle.meaning.specs.Marks.{Mark, CN, FN, BD, ND, GV, AT, MK, CL, TL, OP, LK, BR, NU, AR, IF, other, find, marks, markOf}
-use Rattle.meaning.specs.Reading.{Reader, ensure, mark, constructor, signature, bodies, entry, header, read}
-use Rattle.standing.specs.Bytes.{byteAt, markAt}
+use Rattle.meaning.specs.Reading.{Reader, mark, constructor, signature, bodies, entry, header, read}
+use Rattle.standing.specs.Bytes.{markAt}
 use Rattle.standing.specs.Table.{con-end, fun-end, Sorts}
 use Rattle.standing.proofs.Readers.{ensure-gen, two-gen}
-use Rattle.standing.proofs.Stood.{Stood, stood, on-goal}
+use Rattle.standing.proofs.Stood.{on-goal}
 use Rattle.standing.proofs.Named.{Named, named}
 use Rattle.standing.proofs.Records.{ConAt, con-stood, FunAt, fun-stood}
 

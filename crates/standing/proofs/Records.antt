@@ -1,14 +1,13 @@
 -- The fields of CN and FN stand at their bytes. Assumes nothing.
 use Prim.Native.Nat.{ℕ, zero, suc, _+_, _≤_, _<_}
 use mathlib.Core.List.{List, [], _∷_}
-use mathlib.Core.Path.{_≡_, refl, sym, ap, _∙_, subst}
+use mathlib.Core.Path.{_≡_, refl, ap, subst}
 use lib.ListN.{length, drop, getD}
-use lib.Dec.{ltb}
 use native.Mathlib.Omega.{arith}
 use borrow.Author.Tests.{ltb-true}
 use Rattle.meaning.specs.Syntax.{Sort, Mode, Signature, Constructor}
-use Rattle.meaning.specs.Outcome.{Outcome, ok, refuse, then}
-use Rattle.meaning.specs.Reading.{Reader, below, times, sort, mode, constructor, signature}
+use Rattle.meaning.specs.Outcome.{Outcome}
+use Rattle.meaning.specs.Reading.{Reader, times, sort, mode, constructor, signature}
 use Rattle.standing.specs.Bytes.{byteAt}
 use Rattle.standing.specs.Table.{sort-byte, mode-byte, Sorts, Modes}
 use Rattle.standing.proofs.Readers.{below-gen}

@@ -1,24 +1,24 @@
 -- What the reader of trees reads stands there, byte for byte: one lemma a mark. Assumes nothing.
 use Prim.Native.Nat.{ℕ, zero, suc, _+_, _*_, _≤_, _<_}
-use mathlib.Core.List.{List, [], _∷_}
+use mathlib.Core.List.{List, []}
 use mathlib.Core.Bool.{Bool, true, false, _&&_}
-use mathlib.Core.Option.{Option, some}
+use mathlib.Core.Option.{some}
 use mathlib.Core.Path.{_≡_, refl, sym, ap, _∙_, subst}
 use lib.ListN.{length, drop, getD, getElem?}
 use lib.Dec.{leb, ltb, eqb}
 use native.Mathlib.Omega.{arith}
 use borrow.Author.Tests.{leb-true, eqb-true}
 use Rattle.meaning.specs.Syntax.{Signature, Constructor, Term, Branches, File}
-use Rattle.meaning.specs.Outcome.{Outcome, ok, refuse, then}
+use Rattle.meaning.specs.Outcome.{Outcome, ok, then}
 use Rattle.meaning.specs.Marks.{Mark, CN, FN, BD, ND, GV, AT, MK, CL, TL, OP, LK, BR, NU, AR, IF, other, find, marks, markOf}
-use Rattle.meaning.specs.Reading.{Reader, byte, ensure, declared, any, is-atom, is-node, credits, limits, node, mark, expect, term, branches}
+use Rattle.meaning.specs.Reading.{Reader, byte, ensure, any, is-atom, is-node, credits, limits, node, mark, expect, term, branches}
 use Rattle.meaning.specs.Ownership.{no-function}
 use Rattle.meaning.specs.Plain.{place-of}
-use Rattle.standing.specs.Bytes.{bytesAt, byteAt, markAt}
-use Rattle.standing.specs.Stands.{Listed, count, arity, Stands, Each}
+use Rattle.standing.specs.Bytes.{bytesAt, markAt}
+use Rattle.standing.specs.Stands.{count, arity, Stands, Each}
 use Rattle.standing.specs.Stands as Standing
 use Rattle.standing.proofs.Readers.{byte-gen, ensure-gen, declared-gen, below-gen, two-gen, bytes-gen}
-use Rattle.standing.proofs.Stood.{Stood, stood, refused, on-with, got, entry, listed, length-bytes}
+use Rattle.standing.proofs.Stood.{Stood, stood, refused, on-with, entry, listed, length-bytes}
 use Rattle.standing.proofs.Named.{Named, named}
 
 fit : (k s : ℕ) → (leb k 64 && leb s 32) ≡ true → s ≤ 32

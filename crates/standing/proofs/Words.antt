@@ -1,13 +1,13 @@
 -- The words of a file's table, read one by one. Assumes nothing.
-use Prim.Native.Nat.{ℕ, zero, suc, _+_, _-_, _*_, _/_, _%_, _≤_, _<_}
-use mathlib.Core.List.{List, [], _∷_, _++_, map}
-use mathlib.Core.Path.{_≡_, refl, sym, ap, _∙_, subst}
+use Prim.Native.Nat.{ℕ, zero, suc, _+_, _-_, _*_, _≤_, _<_}
+use mathlib.Core.List.{List, [], _∷_, _++_}
+use mathlib.Core.Path.{_≡_, refl, ap, _∙_}
 use lib.ListN.{length, getD, replicate, length-append, length-replicate, getD-replicate, List·getD-append}
 use lib.Seq.{getD-append-add}
 use native.Mathlib.Omega.{arith}
 use Rattle.meaning.specs.Syntax.{Signature, Constructor}
 use Rattle.meaning.specs.Ownership.{no-function}
-use Rattle.standing.specs.Table.{con-words, con-end, fun-words, fun-end, filled, Sorts, Modes}
+use Rattle.standing.specs.Table.{con-words, fun-words, filled, Sorts}
 use Rattle.standing.proofs.Records.{FunAt}
 use Rattle.standing.proofs.Heads.{Cons, Funs}
 

@@ -1,10 +1,10 @@
 -- The one relation between bytes and trees that every pass behind the reading goes by: this term stands at its place, on a path with so
 -- many slots before it, and ends at `next`. Assumes nothing.
-use Prim.Native.Nat.{ℕ, zero, suc, _+_, _*_, _≤_, _<_}
+use Prim.Native.Nat.{ℕ, suc, _+_, _*_, _≤_, _<_}
 use mathlib.Core.List.{List, [], _∷_}
 use mathlib.Core.Path.{_≡_}
 use lib.ListN.{length, getD}
-use Rattle.meaning.specs.Syntax.{Sort, Mode, Signature, Term, Branches, Constructor, File}
+use Rattle.meaning.specs.Syntax.{Term, Branches, Constructor, File}
 use Rattle.meaning.specs.Syntax as S
 use Rattle.meaning.specs.Plain.{place-of}
 use Rattle.meaning.specs.Reading.{credits}

@@ -1,9 +1,9 @@
 -- The table of a file's declarations, and what stands in a file that was read with that table. Assumes nothing.
-use Prim.Native.Nat.{ℕ, zero, suc, _+_, _-_, _*_, _≤_, _<_}
+use Prim.Native.Nat.{ℕ, _+_, _-_, _*_, _≤_, _<_}
 use mathlib.Core.List.{List, [], _∷_, _++_, map}
 use mathlib.Core.Path.{_≡_}
 use lib.ListN.{length, getD, replicate}
-use Rattle.meaning.specs.Syntax.{Sort, Mode, Signature, Term, Constructor, File}
+use Rattle.meaning.specs.Syntax.{Sort, Mode, Signature, Constructor, File}
 use Rattle.meaning.specs.Plain.{place-of}
 use Rattle.meaning.specs.Machine.{function-of, body-of}
 use Rattle.standing.specs.Bytes.{byteAt, arityIn, fieldsIn, paramsIn, modesIn, bodyIn}

@@ -1,5 +1,5 @@
 -- The slot-tracking check accepts a body exactly when the rules derive it. Assumes nothing.
-use Prim.Native.Nat.{ℕ, zero, suc, _+_}
+use Prim.Native.Nat.{ℕ, suc, _+_}
 use mathlib.Core.Bool.{Bool, true, false, not, _&&_, _||_}
 use mathlib.Core.List.{List, [], _∷_, _++_, map, append-nil}
 use mathlib.Core.Path.{_≡_, refl, sym, ap, _∙_, subst}
@@ -8,15 +8,15 @@ use lib.ListN.{length, getD, set}
 use borrow.Author.Tests.{eq-eqb}
 use Rattle.meaning.specs.Syntax.{Sort, Mode, Signature, Term, Branches, Constructor, File}
 use Rattle.meaning.specs.Syntax.{GV, AT, MK, CL, TL, OP, LK, NU, AR, IF, BR, end}
-use Rattle.meaning.specs.Outcome.{Outcome, ok, refuse, _>>=_, require}
-use Rattle.meaning.specs.Ownership.{Kind, Slot, Slots, Want, fits, take, pass, member, remains, leftover, done, bind, check, check-branches, check-bodies, check-file, mode-owned, kind-owned, kind-of, bound-by-OP, bound-by-LK, same-sort, no-function}
+use Rattle.meaning.specs.Outcome.{ok, _>>=_, require}
+use Rattle.meaning.specs.Ownership.{Kind, Slots, Want, fits, take, pass, member, leftover, done, bind, check, check-branches, check-bodies, check-file, mode-owned, kind-owned, kind-of, bound-by-OP, bound-by-LK, same-sort, no-function}
 use Rattle.meaning.specs.Derivation.{Item, own, credit, Split, left, right, Has, here, there, Tuple, Lends, Context, extend, keeping, as-owned, heads, Derives, Each, Bodies, Derivable}
 use Rattle.meaning.specs.Derivation.{var, atom, reuse, call, tail, match!, match, arith, test, branch}
-use Rattle.theory.proofs.Splits.{all-right, nothing-left, nothing-right, first, join, swap, has-left, has-right, has-cases}
-use Rattle.theory.proofs.Gather.{used-up, from, gather, context, context-bind, Stands}
+use Rattle.theory.proofs.Splits.{all-right, nothing-right, first, join, swap, has-cases}
+use Rattle.theory.proofs.Gather.{used-up, from, gather, context, context-bind}
 use Rattle.theory.proofs.Taking.{take-ok, take-inv, steps-ok, require-then, refused}
-use Rattle.theory.proofs.Wants.{N, L, G, Kept, kept-refl, kept-trans, kept-context, number-has, lent-has, own-split, credit-split, has-number, has-lent, split-own, split-credit, owned-kept, credit-kept, took-number, took-looked, took-owned, took-credit, takes}
-use Rattle.theory.proofs.Passing.{contradiction, has-member, member-has, Owns, owns-whole, variables, Passed, pass-sound, Passes, pass-complete}
+use Rattle.theory.proofs.Wants.{N, L, G, Kept, kept-trans, kept-context, number-has, lent-has, own-split, credit-split, has-number, has-lent, split-own, split-credit, owned-kept, credit-kept, took-number, took-looked, took-owned, took-credit, takes}
+use Rattle.theory.proofs.Passing.{contradiction, has-member, member-has, Owns, owns-whole, variables, Passed, pass-sound, pass-complete}
 
 -- nothing is left over where Γ is empty
 left-step : (n : ℕ) (k : Kind) (u b : Bool) (Γ : List Item)

@@ -1,23 +1,22 @@
 -- The running program's answer, by the states of its run: store, frames, end, and in place. Assumes nothing.
-use Prim.Native.Nat.{ℕ, zero, suc, _+_, _≤_, _<_, max}
+use Prim.Native.Nat.{ℕ, zero, suc, _≤_}
 use mathlib.Core.Bool.{Bool, true, false}
-use mathlib.Core.List.{List, [], _∷_, _++_}
+use mathlib.Core.List.{List, [], _∷_}
 use mathlib.Core.Option.{Option, none, some}
-use mathlib.Core.Path.{_≡_, refl, sym, ap, _∙_, subst}
+use mathlib.Core.Path.{_≡_, refl, ap, _∙_, subst}
 use mathlib.Core.Logic.{_⊎_, inl, inr}
 use native.Mathlib.Omega.{arith}
 use lib.ListN.{length}
 use lib.Dec.{ltb}
 use borrow.Author.Tests.{ltb-true}
-use Rattle.meaning.specs.Syntax.{Sort, Mode, Signature, Term, Branches, Constructor, File}
-use Rattle.meaning.specs.Syntax.{GV, AT, MK, CL, TL, OP, LK, NU, AR, IF, BR, end}
-use Rattle.meaning.specs.Outcome.{Outcome, ok, refuse}
+use Rattle.meaning.specs.Syntax.{Term, File}
+use Rattle.meaning.specs.Syntax.{GV, AT, MK, CL, TL, OP, LK, NU, AR, IF, end}
+use Rattle.meaning.specs.Outcome.{ok}
 use Rattle.meaning.specs.Plain.{branch, arithmetic}
-use Rattle.meaning.specs.Machine.{Held, Store, Frame, State, state, Step, next, finished, stuck, step, run, Answer, answers, word, held, constructor-of, function-of}
+use Rattle.meaning.specs.Machine.{Held, Store, Frame, State, state, Step, next, finished, stuck, step, run, Answer, word, held, constructor-of, function-of}
 use Rattle.meaning.specs.Start.{start, answer-to}
 use Rattle.meaning.specs.Verdict.{accepted}
-use Rattle.meaning.specs.InPlace.{after, height, greatest, Goes-on, Ended, In-place, value-word, begins, Runs-in-place}
-use Rattle.theory.proofs.Passing.{contradiction}
+use Rattle.meaning.specs.InPlace.{after, height, greatest, Ended, In-place, value-word, begins, Runs-in-place}
 use Rattle.theory.proofs.Iterate.{run-store, run-frames, run-ends, greatest-first}
 
 -- a step that ends without a value ends in 31, 33 or 34

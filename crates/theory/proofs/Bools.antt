@@ -3,15 +3,14 @@ use Prim.Native.Nat.{ℕ, zero, suc, _+_, _≤_, _<_}
 use mathlib.Core.Bool.{Bool, true, false}
 use mathlib.Core.List.{List, [], _∷_, _++_}
 use mathlib.Core.Path.{_≡_, refl, sym, ap, _∙_, subst}
-use mathlib.Core.Logic.{_⊎_, inl, inr, _↔_}
+use mathlib.Core.Logic.{_⊎_, inl, inr}
 use native.Mathlib.Omega.{arith}
-use native.Mathlib.Nat.{add-suc}
 use native.Mathlib.Decide.{ℕ-discrete}
-use lib.ListN.{length, getD, set, length-append, List·getD-append, List·getD-eq-default}
+use lib.ListN.{length, getD, length-append, List·getD-append}
 use lib.Seq.{getD-at}
 use Rattle.meaning.specs.Derivation.{Has, here, there}
 use Rattle.meaning.specs.Calls.{Distinct, more}
-use Rattle.meaning.specs.Sets.{upto, first, how-many, zip, or, differ}
+use Rattle.meaning.specs.Sets.{upto, first, how-many, zip}
 use Rattle.theory.proofs.Counting.{nowhere, has-inv}
 use Rattle.theory.proofs.Passing.{contradiction}
 

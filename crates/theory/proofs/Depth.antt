@@ -1,24 +1,23 @@
 -- The rounds of the table against walks. Assumes nothing.
 use Prim.Native.Nat.{ℕ, zero, suc, _+_, _≤_, _<_, max}
 use mathlib.Core.Bool.{Bool, true, false, _&&_}
-use mathlib.Core.List.{List, [], _∷_, _++_}
-use mathlib.Core.Path.{_≡_, refl, sym, ap, _∙_, subst}
-use mathlib.Core.Logic.{_⊎_, inl, inr, _↔_}
+use mathlib.Core.List.{List, [], _∷_}
+use mathlib.Core.Path.{_≡_, refl, sym, _∙_, subst}
+use mathlib.Core.Logic.{_⊎_, inl, inr}
 use native.Mathlib.Omega.{arith}
 use native.Mathlib.Decide.{ℕ-discrete, decLt, decLe}
-use lib.ListN.{length, getD, set, replicate, List·getD-eq-default}
+use lib.ListN.{length, getD, replicate, List·getD-eq-default}
 use lib.Dec.{eqb}
 use borrow.Author.Tests.{eqb-true, eqb-false}
 use Rattle.meaning.specs.declared.How.{How}
 use Rattle.meaning.specs.declared.How.the-variants.{Never, Tail, Waits}
-use Rattle.meaning.specs.Derivation.{Has, here, there}
-use Rattle.meaning.specs.Sets.{upto, first, how-many, zip, or, differ, except}
-use Rattle.meaning.specs.Calls.{Square, entry, Walk, stay, tail, wait, Reaches, Flat, IsDepth, Distinct, more, IsReached, called, reach, through, best, relax, rounds, same}
-use Rattle.theory.proofs.Counting.{no-longer, has-inv, nowhere, member}
+use Rattle.meaning.specs.Derivation.{Has, there}
+use Rattle.meaning.specs.Sets.{upto, how-many}
+use Rattle.meaning.specs.Calls.{Square, entry, Walk, stay, tail, wait, Flat, Distinct, more, reach, through, best, relax, rounds, same}
+use Rattle.theory.proofs.Counting.{no-longer, has-inv, nowhere}
 use Rattle.theory.proofs.Bools.{upto-length, upto-at}
 use Rattle.theory.proofs.Walks.{Narrow, join, not-tail, not-wait, inside, ends-inside}
-use Rattle.theory.proofs.Reach.{clash, decided, Found, reach-found, reach-walk, reach-all, reached}
-use Rattle.theory.proofs.Passing.{contradiction}
+use Rattle.theory.proofs.Reach.{clash, decided, reach-found, reach-walk, reached}
 
 through-mono : (h : How) (x y : ℕ) → x ≤ y → through h x ≤ through h y
 through-mono Never x y l = omega arith

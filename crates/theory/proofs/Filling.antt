@@ -1,17 +1,16 @@
 -- The square holds exactly the calls written in the bodies. Assumes nothing.
 use Prim.Native.Nat.{ℕ, zero, suc, _+_, _≤_, _<_}
-use mathlib.Core.Bool.{Bool, true, false}
 use mathlib.Core.List.{List, [], _∷_, _++_}
 use mathlib.Core.Path.{_≡_, refl, sym, ap, ap₂, _∙_, subst}
 use mathlib.Core.Logic.{_⊎_, inl, inr, _↔_}
 use native.Mathlib.Omega.{arith}
 use native.Mathlib.Decide.{ℕ-discrete, decLt}
-use lib.ListN.{length, getD, set, replicate, length-set, length-replicate, getD-replicate, List·getD-eq-default}
+use lib.ListN.{length, getD, set, replicate, length-set, getD-replicate}
 use lib.Seq.{getD-set-same, getD-set-other, set-out}
 use Rattle.meaning.specs.declared.Call.{Call}
 use Rattle.meaning.specs.declared.How.{How}
 use Rattle.meaning.specs.declared.How.the-variants.{Never, Tail, Waits}
-use Rattle.meaning.specs.Syntax.{Term, File}
+use Rattle.meaning.specs.Syntax.{File}
 use Rattle.meaning.specs.Calls.{call, In, here, there, Square, entry, stronger, noted, fill, no-calls, calls-from, square}
 use Rattle.theory.proofs.Passing.{contradiction}
 

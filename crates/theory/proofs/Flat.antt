@@ -1,20 +1,17 @@
 -- Demand 3's flat case, for accepted bytes: at most D frames, and never 33. Assumes nothing.
-use Prim.Native.Nat.{ℕ, zero, suc, _+_, _≤_, _<_}
-use mathlib.Core.List.{List, [], _∷_}
-use mathlib.Core.Path.{_≡_, refl, sym, ap, _∙_, subst}
-use mathlib.Core.Logic.{_↔_}
-use native.Mathlib.Omega.{arith}
+use Prim.Native.Nat.{ℕ, suc, _≤_}
+use mathlib.Core.List.{List}
+use mathlib.Core.Path.{_≡_, subst}
 use lib.ListN.{length}
 use Rattle.meaning.specs.Syntax.{File}
-use Rattle.meaning.specs.Outcome.{Outcome, ok, refuse, _>>=_}
-use Rattle.meaning.specs.Calls.{square, Flat, IsDepth, IsReached, Shape, flat, stacked, shape}
+use Rattle.meaning.specs.Outcome.{Outcome, ok, refuse}
+use Rattle.meaning.specs.Calls.{Shape, flat, shape}
 use Rattle.meaning.specs.Verdict.{accepted, verdict}
-use Rattle.meaning.specs.Machine.{Held, Store, State, Answer, answers, run, body-of, function-of}
+use Rattle.meaning.specs.Machine.{Held, Store, State, Answer, answers, run, function-of}
 use Rattle.meaning.specs.Start.{start, begin, answer-to}
 use Rattle.theory.proofs.Taking.{steps-ok, refused}
 use Rattle.theory.proofs.Wellread.{accepted-read}
 use Rattle.theory.proofs.Filling.{Callable}
-use Rattle.theory.proofs.Shapes.{shape-flat, shape-bounds}
 use Rattle.theory.proofs.Frames.{callable, Later, first-state, frames-at-most, run-at-most}
 
 pub accepted-callable : (bytes : List ℕ) (file : File) → accepted bytes ≡ ok file → Callable file

@@ -3,7 +3,7 @@ use Prim.Native.Nat.{ℕ, zero, suc, _+_, _≤_, _<_, max}
 use mathlib.Core.Bool.{Bool, true, false}
 use mathlib.Core.List.{List, [], _∷_, _++_}
 use mathlib.Core.Option.{Option, none, some}
-use mathlib.Core.Path.{_≡_, refl, sym, ap, _∙_, subst}
+use mathlib.Core.Path.{_≡_, refl, sym, subst}
 use mathlib.Core.Logic.{_⊎_, inl, inr}
 use native.Mathlib.Omega.{arith}
 use lib.ListN.{length, getD}
@@ -12,13 +12,11 @@ use borrow.Author.Tests.{ltb-false}
 use Rattle.meaning.specs.declared.Call.{Call}
 use Rattle.meaning.specs.declared.How.{How}
 use Rattle.meaning.specs.declared.How.the-variants.{Never, Tail, Waits}
-use Rattle.meaning.specs.Syntax.{Sort, Mode, Signature, Term, Branches, Constructor, File}
+use Rattle.meaning.specs.Syntax.{Term, Branches, Constructor, File}
 use Rattle.meaning.specs.Syntax.{GV, AT, MK, CL, TL, OP, LK, NU, AR, IF, BR, end}
-use Rattle.meaning.specs.Outcome.{Outcome, ok, refuse}
 use Rattle.meaning.specs.Plain.{arithmetic, branch, no-body}
 use Rattle.meaning.specs.Machine.{Held, Store, Frame, State, state, Answer, answers, Step, next, finished, stuck, step, run, body-of, function-of, fields-of, argued, without, word, held, give-up, cell, constructor-of, fields, opened, looked, credit-for}
-use Rattle.meaning.specs.Calls.{call, In, here, there, calls, calls-branches, calls-from, Square, entry, square, Walk, stay, tail, wait, Flat, IsDepth, IsReached, Shape, flat, stacked, shape}
-use Rattle.meaning.specs.Verdict.{accepted}
+use Rattle.meaning.specs.Calls.{call, In, here, there, calls, calls-branches, calls-from, Square, entry, square, Walk, stay, wait, IsDepth, flat, shape}
 use Rattle.theory.proofs.Walks.{join, then-tail, then-wait}
 use Rattle.theory.proofs.Filling.{rank, in-left, in-right, in-cases, Callable, covered}
 use Rattle.theory.proofs.Shapes.{shape-flat, shape-bounds}

@@ -1,15 +1,15 @@
 -- The contexts that a slot list stands for, and what a taken slot does to them. Assumes nothing.
 use Prim.Native.Nat.{ℕ, zero, suc, _+_}
-use mathlib.Core.Bool.{Bool, true, false, true≢false, false≢true}
-use mathlib.Core.List.{List, [], _∷_, _++_, map, append-assoc, append-nil}
-use mathlib.Core.Option.{Option, none, some, Option·none-ne-some}
+use mathlib.Core.Bool.{Bool, true, false}
+use mathlib.Core.List.{List, [], _∷_, _++_, map, append-assoc}
+use mathlib.Core.Option.{Option, some, Option·none-ne-some}
 use mathlib.Core.Path.{_≡_, refl, sym, ap, _∙_, subst}
 use mathlib.Core.Logic.{_⊎_, inl, inr}
 use native.Mathlib.Nat.{add-zero, add-suc, suc-add, zero-add}
 use native.Mathlib.Omega.{arith}
-use lib.ListN.{length, getElem?, set, length-set, length-append, length-map}
+use lib.ListN.{length, getElem?, set, length-append, length-map}
 use Rattle.meaning.specs.Ownership.{Kind, Slot, Slots, fresh, bind}
-use Rattle.meaning.specs.Derivation.{Item, own, credit, Split, left, right, Has, here, there, Context, extend, keeping, added, as-number, as-lent, as-owned}
+use Rattle.meaning.specs.Derivation.{Item, own, credit, Split, left, right, Context, extend, added, as-number, as-lent, as-owned}
 use Rattle.theory.proofs.Splits.{all-right, before, nothing-left}
 
 abbrev pub used-up : Slot → Slot

@@ -1,26 +1,23 @@
 -- An argument list handed over: the called function's slots, and the caller's after it. Assumes nothing.
-use Prim.Native.Nat.{ℕ, zero, suc, _+_, _*_, _≤_, _<_}
-use mathlib.Core.Bool.{Bool, true, false}
+use Prim.Native.Nat.{ℕ, zero, suc, _+_}
+use mathlib.Core.Bool.{false}
 use mathlib.Core.List.{List, [], _∷_, _++_, map}
-use mathlib.Core.Option.{Option, some}
-use mathlib.Core.Path.{_≡_, refl, sym, ap, _∙_, subst}
+use mathlib.Core.Path.{_≡_, refl, ap, _∙_, subst}
 use mathlib.Core.Logic.{_⊎_, inl, inr}
-use native.Mathlib.Omega.{arith}
-use native.Mathlib.Decide.{ℕ-discrete}
-use lib.ListN.{length, getD, getElem?, set}
-use Rattle.meaning.specs.Syntax.{Sort, Mode, Constructor}
-use Rattle.meaning.specs.Outcome.{Outcome, ok, refuse, _>>=_}
-use Rattle.meaning.specs.Ownership.{Kind, Slot, Slots, fresh, Want, take, pass, member, kind-of}
-use Rattle.meaning.specs.Derivation.{own, Split, left, right, Has, here, there}
+use lib.ListN.{getD, set}
+use Rattle.meaning.specs.Syntax.{Mode, Constructor}
+use Rattle.meaning.specs.Outcome.{ok}
+use Rattle.meaning.specs.Ownership.{Kind, Slots, fresh, Want, take, pass, member, kind-of}
+use Rattle.meaning.specs.Derivation.{Split, Has, here}
 use Rattle.meaning.specs.Plain.{Value}
 use Rattle.meaning.specs.Plain as P
 use Rattle.meaning.specs.Machine.{Held, Store, word, held, give-up, taken, argued, without}
-use Rattle.theory.proofs.Splits.{all-right, first, join, swap, has-left, has-right}
+use Rattle.theory.proofs.Splits.{all-right, join, swap, has-left, has-right}
 use Rattle.theory.proofs.Gather.{used-up, Stands}
 use Rattle.theory.proofs.Taking.{take-inv, steps-ok, refused}
 use Rattle.theory.proofs.Wants.{G, own-split, split-own, took-number, took-lent, took-owned}
-use Rattle.theory.proofs.Passing.{contradiction, spent, owns-whole, pass-sound}
-use Rattle.theory.proofs.Rep.{Tree, Holds, Slot-holds, Match, next, live, used, has-part, Out, take-out}
+use Rattle.theory.proofs.Passing.{spent, owns-whole, pass-sound}
+use Rattle.theory.proofs.Rep.{Holds, Match, next, live, has-part, Out, take-out}
 
 abbrev pub value-at : List Value → ℕ → Value
 value-at env s = getD env s P.credit

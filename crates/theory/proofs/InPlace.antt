@@ -1,15 +1,14 @@
 -- An accepted file runs in place, from arguments that are ready. Assumes nothing.
-use Prim.Native.Nat.{ℕ, zero, suc, _+_, _≤_, _<_}
-use mathlib.Core.List.{List, [], _∷_, _++_, map, append-nil}
+use Prim.Native.Nat.{ℕ, _+_}
+use mathlib.Core.List.{List, [], _∷_, map, append-nil}
 use mathlib.Core.Path.{_≡_, refl, sym, ap, _∙_, subst}
 use native.Mathlib.Omega.{arith}
-use lib.ListN.{length}
-use Rattle.meaning.specs.Syntax.{Sort, Mode, Signature, Term, Constructor, File}
-use Rattle.meaning.specs.Outcome.{Outcome, ok}
+use Rattle.meaning.specs.Syntax.{Sort, Mode, Constructor, File}
+use Rattle.meaning.specs.Outcome.{ok}
 use Rattle.meaning.specs.Ownership.{Slots, bind, kind-of}
 use Rattle.meaning.specs.Derivation.{Has}
 use Rattle.meaning.specs.Plain.{Value}
-use Rattle.meaning.specs.Machine.{Held, Store, Frame, State, step, finished, body-of, function-of}
+use Rattle.meaning.specs.Machine.{Store, Frame, State, body-of, function-of}
 use Rattle.meaning.specs.Start.{chosen, is-owned, begin}
 use Rattle.meaning.specs.Walk.{count}
 use Rattle.meaning.specs.Verdict.{accepted}

@@ -1,24 +1,20 @@
 -- The hypothesis of `in-place` can be met: P11's start is ready. Assumes nothing.
-use Prim.Native.Nat.{ℕ, zero, suc, _+_, _*_, _≤_, _<_}
-use mathlib.Core.Bool.{Bool, true, false}
-use mathlib.Core.List.{List, [], _∷_, _++_, map}
-use mathlib.Core.Path.{_≡_, refl, sym, ap, _∙_, subst}
+use mathlib.Core.List.{[], _∷_}
+use mathlib.Core.Path.{_≡_, refl}
 use native.Mathlib.Omega.{arith}
-use Rattle.meaning.specs.Syntax.{Sort, Mode, File, Term, GV, OP, MK, TL, BR, end}
-use Rattle.meaning.specs.Outcome.{Outcome, ok, refuse}
-use Rattle.meaning.specs.Reading.{read, header, entry, bodies, finish, signature, constructor, term, node as read-node, branches, limits, declared, mode, sort, expect, mark, times, below}
-use Rattle.meaning.specs.Ownership.{Slots, bind, kind-of, check, pass, check-bodies, check-file}
+use Rattle.meaning.specs.Syntax.{Sort, Mode, File, GV, OP, MK, TL, BR, end}
+use Rattle.meaning.specs.Outcome.{ok}
+use Rattle.meaning.specs.Reading.{read, header, entry, bodies, finish, signature, constructor, term, node as read-node, limits, declared, mode, sort, expect, mark, times, below}
+use Rattle.meaning.specs.Ownership.{check, pass, check-bodies, check-file}
 use Rattle.meaning.specs.Ownership as O
-use Rattle.meaning.specs.Derivation.{Split, left, right, Has, here, there}
-use Rattle.meaning.specs.Plain.{Value, Values, node, empty, more}
+use Rattle.meaning.specs.Derivation.{Split, left, right}
+use Rattle.meaning.specs.Plain.{Value, node, empty, more}
 use Rattle.meaning.specs.Plain as P
-use Rattle.meaning.specs.Machine.{Held, Store, body-of, function-of}
-use Rattle.meaning.specs.Start.{begin}
 use Rattle.meaning.specs.Verdict.{accepted}
 use Rattle.meaning.specs.InPlace.{Runs-in-place}
 use Rattle.meaning.specs.Cases.{reversal}
 use Rattle.meaning.specs.Cases.{two-cells}
-use Rattle.theory.proofs.Rep.{Tree, Fields, Holds, Slot-holds, Match, next, live}
+use Rattle.theory.proofs.Rep.{Tree, Fields, Holds, Match, next, live}
 use Rattle.theory.proofs.Sim.{Once}
 use Rattle.theory.proofs.Reached.{has-count}
 use Rattle.theory.proofs.InPlace.{accepted-in-place}

@@ -1,12 +1,10 @@
 -- A run is its steps, one after the other. Assumes nothing.
-use Prim.Native.Nat.{ℕ, zero, suc, _+_, _≤_, _<_, max}
-use mathlib.Core.List.{List, [], _∷_}
+use Prim.Native.Nat.{ℕ, zero, suc, _+_, _≤_, max}
 use mathlib.Core.Path.{_≡_, refl, sym, ap, _∙_, subst}
 use native.Mathlib.Omega.{arith}
-use lib.ListN.{length}
-use Rattle.meaning.specs.Syntax.{Term, File}
+use Rattle.meaning.specs.Syntax.{File}
 use Rattle.meaning.specs.Plain.{place-of}
-use Rattle.meaning.specs.Machine.{Store, Frame, State, Step, next, finished, stuck, step, run, Answer, answers}
+use Rattle.meaning.specs.Machine.{State, Step, next, finished, stuck, step, run, Answer, answers}
 use Rattle.meaning.specs.InPlace.{after, height, greatest, Goes-on, Ended}
 
 module _ (file : File) where

@@ -1,20 +1,19 @@
 -- Laws of `Match`: appended, kept by another store, opened, looked at. Assumes nothing.
-use Prim.Native.Nat.{ℕ, zero, suc, _+_, _*_, _≤_, _<_}
+use Prim.Native.Nat.{ℕ, suc, _+_}
 use mathlib.Core.Bool.{Bool, true, false, not, _&&_, _||_}
-use mathlib.Core.List.{List, [], _∷_, _++_, map, append-nil}
+use mathlib.Core.List.{List, [], _∷_, _++_, map}
 use mathlib.Core.Path.{_≡_, refl, sym, ap, _∙_, subst}
 use native.Mathlib.Omega.{arith}
-use lib.ListN.{length, getD, getElem?, set}
-use lib.Dec.{ltb}
-use Rattle.meaning.specs.Syntax.{Sort, Mode, Constructor}
-use Rattle.meaning.specs.Ownership.{Kind, Slot, Slots, fresh, bind, Want, fits, leftover, remains, kind-owned, kind-lent, credit-of, bound-by-OP, bound-by-LK}
-use Rattle.meaning.specs.Derivation.{Split, left, right, Has, here, there}
-use Rattle.meaning.specs.Plain.{Value, Values, node, empty, more, list, with-credit}
+use lib.ListN.{length, getD}
+use Rattle.meaning.specs.Syntax.{Sort, Constructor}
+use Rattle.meaning.specs.Ownership.{Kind, Slot, Slots, fresh, Want, fits, leftover, remains, kind-owned, kind-lent, bound-by-OP, bound-by-LK}
+use Rattle.meaning.specs.Derivation.{Split, left, Has}
+use Rattle.meaning.specs.Plain.{Value, Values, node, list, with-credit}
 use Rattle.meaning.specs.Plain as P
-use Rattle.meaning.specs.Machine.{Held, Store, cell, word-at, constructor-of, fields, opened, looked, credit-for}
-use Rattle.theory.proofs.Splits.{all-right, nothing-left, nothing-right, first, join, swap, has-split, split-has}
+use Rattle.meaning.specs.Machine.{Held, Store, cell, constructor-of, fields, opened, looked, credit-for}
+use Rattle.theory.proofs.Splits.{all-right, nothing-left, first, swap}
 use Rattle.theory.proofs.Passing.{contradiction}
-use Rattle.theory.proofs.Rep.{Tree, Fields, Holds, Slot-holds, Match, next, live, used, Same, Alike, has-part, tree-keep}
+use Rattle.theory.proofs.Rep.{Tree, Fields, Holds, Slot-holds, Match, next, live, used, Alike, has-part, tree-keep}
 
 or-both : (a b : Bool) → (a || b) ≡ false → (a ≡ false) × (b ≡ false)
 or-both true b e = let z : _≡_ {A = ℕ} 0 1 = cc in absurd (contradiction z)

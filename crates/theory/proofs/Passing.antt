@@ -1,20 +1,20 @@
 -- An argument list: passing slots one by one, and splitting Γ at once, both ways. Assumes nothing.
 use Prim.Native.Nat.{ℕ, zero, suc, _+_}
-use mathlib.Core.Bool.{Bool, true, false, not, _&&_, _||_, or-true}
-use mathlib.Core.List.{List, [], _∷_, _++_, map}
-use mathlib.Core.Option.{Option, none, some}
+use mathlib.Core.Bool.{Bool, true, false, not, _||_, or-true}
+use mathlib.Core.List.{List, [], _∷_, _++_}
+use mathlib.Core.Option.{none, some}
 use mathlib.Core.Path.{_≡_, refl, sym, ap, _∙_, subst}
 use mathlib.Core.Logic.{_⊎_, inl, inr}
 use native.Mathlib.Omega.{arith}
-use lib.ListN.{length, getElem?, set}
+use lib.ListN.{getElem?, set}
 use lib.Dec.{eqb}
 use borrow.Author.Tests.{eqb-true, eq-eqb}
-use Rattle.meaning.specs.Syntax.{Sort, Mode}
-use Rattle.meaning.specs.Outcome.{Outcome, ok, refuse, _>>=_}
-use Rattle.meaning.specs.Ownership.{Kind, Slot, Slots, Want, want, fits, sized, spends, spend, take, pass, member, remains, leftover}
-use Rattle.meaning.specs.Derivation.{Item, own, credit, Split, left, right, Has, here, there, Tuple, as-owned}
-use Rattle.theory.proofs.Splits.{all-right, nothing-left, first, join, swap, has-left, has-right, has-cases}
-use Rattle.theory.proofs.Gather.{used-up, from, gather, Stands}
+use Rattle.meaning.specs.Syntax.{Mode}
+use Rattle.meaning.specs.Outcome.{ok, _>>=_}
+use Rattle.meaning.specs.Ownership.{Kind, Slot, Slots, Want, take, pass, member}
+use Rattle.meaning.specs.Derivation.{Item, own, credit, Split, left, right, Has, here, there, Tuple}
+use Rattle.theory.proofs.Splits.{all-right, nothing-left, first, join, swap, has-left, has-right}
+use Rattle.theory.proofs.Gather.{used-up, Stands}
 use Rattle.theory.proofs.Taking.{Takes, take-ok, take-inv, steps-ok, refused}
 use Rattle.theory.proofs.Wants.{N, L, G, Kept, kept-refl, kept-trans, number-has, lent-has, own-split, has-number, has-lent, split-own, owned-kept, took-number, took-lent, took-owned, takes}
 

@@ -1,23 +1,21 @@
 -- Visiting finds exactly the functions that walks from function 0 reach. Assumes nothing.
 use Prim.Native.Nat.{ℕ, zero, suc, _+_, _≤_, _<_}
 use mathlib.Core.Bool.{Bool, true, false}
-use mathlib.Core.List.{List, [], _∷_, _++_}
+use mathlib.Core.List.{List, [], _∷_}
 use mathlib.Core.Path.{_≡_, refl, sym, ap, _∙_, subst}
-use mathlib.Core.Logic.{_⊎_, inl, inr, _↔_}
+use mathlib.Core.Logic.{_⊎_, inl, inr}
 use native.Mathlib.Omega.{arith}
 use native.Mathlib.Decide.{ℕ-discrete, decLt}
 use lib.ListN.{length, getD, set, replicate, length-set, List·getD-eq-default}
 use lib.Seq.{getD-set-same, getD-set-other}
 use lib.Dec.{leb}
 use borrow.Author.Tests.{leb-true, leb-false}
-use Rattle.meaning.specs.declared.How.{How}
-use Rattle.meaning.specs.declared.How.the-variants.{Never, Tail, Waits}
-use Rattle.meaning.specs.Derivation.{Has, here, there}
-use Rattle.meaning.specs.Sets.{upto, first, how-many, zip, or, differ, except}
+use Rattle.meaning.specs.Derivation.{Has}
+use Rattle.meaning.specs.Sets.{first, how-many, zip, or, differ, except}
 use Rattle.meaning.specs.Calls.{Square, entry, Walk, stay, tail, wait, Reaches, Distinct, more, IsReached, called, row, visits, start, reach}
 use Rattle.theory.proofs.Counting.{no-longer, numbers, numbers-length, in-numbers, has-inv, nowhere}
 use Rattle.theory.proofs.Bools.{upto-length, upto-at, zip-length, zip-at, first-in, first-none, members, members-length, member-from, member-at, members-distinct}
-use Rattle.theory.proofs.Walks.{Narrow, reaches-next, inside, ends-inside}
+use Rattle.theory.proofs.Walks.{Narrow, reaches-next, ends-inside}
 use Rattle.theory.proofs.Passing.{contradiction}
 
 -- Bools

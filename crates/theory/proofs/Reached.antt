@@ -1,24 +1,24 @@
 -- The cells that a frame's slots stand for are those that are reached from its owned slots, with its credits. Assumes nothing.
-use Prim.Native.Nat.{ℕ, zero, suc, _+_, _*_, _≤_, _<_}
+use Prim.Native.Nat.{ℕ, zero, suc, _+_, _≤_}
 use mathlib.Core.Bool.{Bool, true, false}
-use mathlib.Core.List.{List, [], _∷_, _++_, map}
+use mathlib.Core.List.{List, [], _∷_, _++_}
 use mathlib.Core.Option.{Option, none, some}
 use mathlib.Core.Path.{_≡_, refl, sym, ap, _∙_, subst}
 use native.Mathlib.Omega.{arith}
-use lib.ListN.{length, getD}
+use lib.ListN.{getD}
 use lib.Dec.{ltb, eqb}
 use borrow.Author.Tests.{eq-eqb, eqb-true, ltb-true, ltb-false, lt-ltb, le-ltb}
-use Rattle.meaning.specs.Syntax.{Sort, Mode, Constructor}
-use Rattle.meaning.specs.Ownership.{Kind, Slot, Slots, kind-owned}
+use Rattle.meaning.specs.Syntax.{Sort, Constructor}
+use Rattle.meaning.specs.Ownership.{Kind, Slots, kind-owned}
 use Rattle.meaning.specs.Derivation.{Split, left, right, Has, here, there}
 use Rattle.meaning.specs.Plain.{Value, Values}
-use Rattle.meaning.specs.Machine.{Held, Store, word, word-at, cell}
+use Rattle.meaning.specs.Machine.{Held, Store, word, cell}
 use Rattle.meaning.specs.Start.{inside, tree-words}
 use Rattle.meaning.specs.Walk.{count}
 use Rattle.meaning.specs.InPlace.{Reaches, owned-word, credited, of-slots, value-word, walk, with-cell}
 use Rattle.theory.proofs.Splits.{has-split}
 use Rattle.theory.proofs.Passing.{contradiction}
-use Rattle.theory.proofs.Rep.{Tree, Fields, Holds, Slot-holds, Match, next, live, used}
+use Rattle.theory.proofs.Rep.{Tree, Fields, Holds, Match, next, live, used}
 use Rattle.theory.proofs.Sim.{Once}
 
 -- counting

@@ -1,20 +1,19 @@
 -- What the slots of a frame stand for: plain values, with the cells that they are made of. Assumes nothing.
 use Prim.Native.Nat.{ℕ, zero, suc, _+_, _*_, _≤_, _<_}
-use mathlib.Core.Bool.{Bool, true, false}
-use mathlib.Core.List.{List, [], _∷_, _++_, map}
-use mathlib.Core.Option.{Option, none, some, Option·none-ne-some}
+use mathlib.Core.Bool.{true, false}
+use mathlib.Core.List.{List, [], _∷_}
+use mathlib.Core.Option.{Option, some, Option·none-ne-some}
 use mathlib.Core.Path.{_≡_, refl, sym, ap, _∙_, subst}
-use mathlib.Core.Logic.{_⊎_, inl, inr}
 use native.Mathlib.Omega.{arith}
 use lib.ListN.{length, getD, getElem?, set}
 use lib.Dec.{ltb}
-use Rattle.meaning.specs.Syntax.{Sort, Mode, Constructor}
-use Rattle.meaning.specs.Ownership.{Kind, Slot, Slots, fresh}
-use Rattle.meaning.specs.Derivation.{Split, left, right, Has, here, there}
+use Rattle.meaning.specs.Syntax.{Sort, Constructor}
+use Rattle.meaning.specs.Ownership.{Kind, Slot, Slots}
+use Rattle.meaning.specs.Derivation.{Split, Has}
 use Rattle.meaning.specs.Plain.{Value, Values, node, empty, more}
 use Rattle.meaning.specs.Plain as P
 use Rattle.meaning.specs.Machine.{Held, Store, cell, word-at, held}
-use Rattle.theory.proofs.Splits.{all-right, first, join, swap, has-split, split-has, has-left, has-right, has-cases}
+use Rattle.theory.proofs.Splits.{all-right, first, swap, has-split, split-has}
 use Rattle.theory.proofs.Gather.{used-up}
 use Rattle.theory.proofs.Passing.{contradiction}
 

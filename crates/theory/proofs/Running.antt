@@ -1,7 +1,7 @@
 -- What `run` answers and leaves, in each of the ways that a call may go: by the file, by the start, or by the steps. Assumes nothing.
-use Prim.Native.Nat.{ℕ, zero, suc, _≤_, _<_}
+use Prim.Native.Nat.{ℕ, _≤_, _<_}
 use mathlib.Core.List.{List}
-use mathlib.Core.Path.{_≡_, refl, sym, ap, _∙_}
+use mathlib.Core.Path.{_≡_, sym, ap, _∙_}
 use mathlib.Core.Logic.{_⊎_, inl, inr, ⊎-elim}
 use native.Mathlib.Omega.{arith}
 use lib.ListN.{length}
@@ -16,7 +16,7 @@ use Rattle.meaning.specs.Machine.{Store, run, answers}
 use Rattle.meaning.specs.Machine as M
 use Rattle.meaning.specs.InPlace.{begins}
 use Rattle.meaning.specs.Start.{start, answer-to}
-use Rattle.meaning.specs.Answers.{endOf, wiped, left-in, Ended, ended, answered, runOf}
+use Rattle.meaning.specs.Answers.{endOf, wiped, left-in, ended, answered, runOf}
 use Rattle.theory.proofs.Ends.{left-kept, left-wiped}
 use Rattle.theory.proofs.SoundAnswers.{Refusal, ran}
 use Rattle.theory.proofs.StartCounting.{le?, same?}

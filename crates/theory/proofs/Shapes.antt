@@ -1,24 +1,24 @@
 -- The verdict flat D R or stacked R says what walks over the square say. Assumes nothing.
-use Prim.Native.Nat.{ℕ, zero, suc, _+_, _≤_, _<_}
+use Prim.Native.Nat.{ℕ, suc, _+_, _≤_, _<_}
 use mathlib.Core.Bool.{Bool, true, false}
-use mathlib.Core.List.{List, [], _∷_, _++_}
-use mathlib.Core.Path.{_≡_, refl, sym, ap, ap₂, _∙_, subst}
+use mathlib.Core.List.{List, [], _∷_}
+use mathlib.Core.Path.{_≡_, refl, ap, ap₂, subst}
 use mathlib.Core.Logic.{_⊎_, inl, inr, _↔_}
 use native.Mathlib.Omega.{arith}
 use native.Mathlib.Decide.{ℕ-discrete, decLt}
-use lib.ListN.{length, getD, set, replicate, length-set, length-replicate, getD-replicate, List·getD-eq-default}
+use lib.ListN.{length, getD, set, replicate, length-set, getD-replicate, List·getD-eq-default}
 use lib.Seq.{getD-set-same, getD-set-other, set-out}
 use Rattle.meaning.specs.declared.Call.{Call}
 use Rattle.meaning.specs.declared.How.{How}
-use Rattle.meaning.specs.declared.How.the-variants.{Never, Tail, Waits}
+use Rattle.meaning.specs.declared.How.the-variants.{Never}
 use Rattle.meaning.specs.Syntax.{File}
-use Rattle.meaning.specs.Derivation.{Has, here, there}
+use Rattle.meaning.specs.Derivation.{Has}
 use Rattle.meaning.specs.Sets.{how-many}
 use Rattle.meaning.specs.Calls.{Square, entry, stronger, noted, fill, no-calls, calls-from, square, Walk, stay, tail, wait, Reaches, Flat, IsDepth, Distinct, more, IsReached, reach, relax, rounds, same, Shape, flat, stacked, settle, judge, shape}
 use Rattle.theory.proofs.Counting.{no-longer, has-inv, nowhere}
 use Rattle.theory.proofs.Walks.{Narrow, reaches-next}
 use Rattle.theory.proofs.Reach.{reach-found, reach-all, reached, reached-least, reached-most}
-use Rattle.theory.proofs.Depth.{T, Seen, sound, gain, settled, same-all, same-not}
+use Rattle.theory.proofs.Depth.{T, sound, gain, settled, same-all, same-not}
 use Rattle.theory.proofs.Passing.{contradiction}
 
 -- what is given is the only one

@@ -1,32 +1,32 @@
 -- The machine's run of a frame is the plain evaluation of its term. Assumes nothing.
 use Prim.Native.Nat.{ℕ, zero, suc, _+_, _*_, _≤_, _<_, max}
-use mathlib.Core.Bool.{Bool, true, false, not, _&&_, _||_}
-use mathlib.Core.List.{List, [], _∷_, _++_, map, append-nil}
+use mathlib.Core.Bool.{Bool, true, false, not}
+use mathlib.Core.List.{List, [], _∷_, _++_, map}
 use mathlib.Core.Option.{Option, none, some}
 use mathlib.Core.Path.{_≡_, refl, sym, ap, _∙_, subst}
-use mathlib.Core.Logic.{_⊎_, inl, inr}
+use mathlib.Core.Logic.{inl, inr}
 use native.Mathlib.Omega.{arith}
-use lib.ListN.{length, getD, getElem?, set, length-set}
+use lib.ListN.{length, getD, set, length-set}
 use lib.Dec.{ltb, eqb}
 use borrow.Author.Tests.{eq-eqb, ne-eqb, eqb-true, ltb-true, ltb-false, lt-ltb}
 use Rattle.theory.proofs.Agree.{sort-same}
 use Rattle.meaning.specs.Syntax.{Sort, Mode, Signature, Term, Branches, Constructor, File}
 use Rattle.meaning.specs.Syntax.{GV, AT, MK, CL, TL, OP, LK, NU, AR, IF, BR, end}
-use Rattle.meaning.specs.Outcome.{Outcome, ok, refuse, _>>=_, require}
-use Rattle.meaning.specs.Ownership.{Kind, Slot, Slots, fresh, bind, Want, take, pass, member, leftover, done, check, check-branches, check-bodies, check-file, kind-owned, kind-of, mode-owned, bound-by-OP, bound-by-LK, same-sort, no-function}
-use Rattle.meaning.specs.Derivation.{Split, Has, here, there}
-use Rattle.meaning.specs.Plain.{Value, Values, node, empty, more, values, list, with-credit, arithmetic, Run, eval, evaluate, branch, no-body, place-of, body}
+use Rattle.meaning.specs.Outcome.{ok, _>>=_, require}
+use Rattle.meaning.specs.Ownership.{Kind, Slots, fresh, bind, Want, take, pass, member, leftover, done, check, check-branches, check-bodies, check-file, kind-owned, kind-of, mode-owned, bound-by-OP, bound-by-LK, same-sort, no-function}
+use Rattle.meaning.specs.Derivation.{Split, Has}
+use Rattle.meaning.specs.Plain.{Value, Values, node, empty, values, list, with-credit, arithmetic, Run, eval, evaluate, branch, no-body, body}
 use Rattle.meaning.specs.Plain as P
-use Rattle.meaning.specs.Machine.{Held, Store, Frame, State, state, Answer, answers, word, held, give-up, taken, argued, without, cell, word-at, write, step, run, body-of, function-of, fields-of, constructor-of, fields, opened, looked, credit-for, credit-cell}
-use Rattle.theory.proofs.Splits.{all-right, nothing-left, nothing-right, first, join, swap, has-split, split-has, has-left, has-right, has-cases}
-use Rattle.theory.proofs.Gather.{used-up, Stands}
+use Rattle.meaning.specs.Machine.{Held, Store, Frame, state, Answer, answers, word, held, give-up, taken, argued, without, cell, write, step, run, body-of, function-of, constructor-of, fields, opened, looked, credit-for, credit-cell}
+use Rattle.theory.proofs.Splits.{all-right, nothing-right, first, join, swap, has-split, split-has, has-cases}
+use Rattle.theory.proofs.Gather.{used-up}
 use Rattle.theory.proofs.Taking.{take-inv, steps-ok, require-then, refused}
 use Rattle.theory.proofs.Wants.{took-number, took-looked, took-owned, took-credit}
 use Rattle.theory.proofs.Passing.{contradiction}
-use Rattle.theory.proofs.Rep.{Tree, Fields, Holds, Slot-holds, Match, next, live, used, Same, Alike, has-part, Out}
+use Rattle.theory.proofs.Rep.{Tree, Fields, Holds, Match, next, Same, Alike, has-part}
 use Rattle.theory.proofs.Matching.{match-append, match-one, match-empty, match-keep, open-tree, look-tree}
-use Rattle.theory.proofs.Handing.{value-at, at-kind, owned-again, owned-taken, credit-taken, number-again, Handed, hand}
-use Rattle.theory.proofs.Writing.{write-size, write-other, write-at, Words, written, built, made}
+use Rattle.theory.proofs.Handing.{value-at, at-kind, owned-taken, credit-taken, Handed, hand}
+use Rattle.theory.proofs.Writing.{write-size, write-other, write-at, written, built, made}
 
 -- what reading makes sure of: AT names an atom, MK a constructor with fields, CL and TL one of at most 32 functions
 abbrev mutual

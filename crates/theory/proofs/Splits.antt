@@ -1,10 +1,9 @@
 -- Laws of `Split` and `Has`. Assumes nothing.
-use Prim.Native.Nat.{ℕ, zero, suc, _+_}
-use mathlib.Core.List.{List, [], _∷_, _++_, map}
-use mathlib.Core.Path.{_≡_, refl, sym, ap, _∙_, subst}
+use Prim.Native.Nat.{ℕ, _+_}
+use mathlib.Core.List.{List, [], _∷_, _++_}
+use mathlib.Core.Path.{_≡_, refl, ap}
 use mathlib.Core.Logic.{_⊎_, inl, inr}
-use Rattle.meaning.specs.Derivation.{Item, own, credit, Split, none, left, right, Has, here, there}
-use Rattle.meaning.specs.Derivation as D
+use Rattle.meaning.specs.Derivation.{Split, none, left, right, Has, here, there}
 
 module _ {A : Type 0} where
   pub all-right : (Γ : List A) → Split Γ [] Γ

@@ -1,23 +1,20 @@
 -- The frames of a state: what each waits for, and that every node keeps it so. Assumes nothing.
-use Prim.Native.Nat.{ℕ, zero, suc, _+_, _*_, _≤_, _<_}
+use Prim.Native.Nat.{ℕ, zero, suc, _+_}
 use mathlib.Core.Bool.{Bool, true, false}
-use mathlib.Core.List.{List, [], _∷_, _++_, map}
+use mathlib.Core.List.{List, [], _∷_, _++_}
 use mathlib.Core.Option.{Option, none, some}
-use mathlib.Core.Path.{_≡_, refl, sym, ap, _∙_, subst}
-use native.Mathlib.Omega.{arith}
-use lib.ListN.{length, getD}
+use mathlib.Core.Path.{_≡_, refl, _∙_, subst}
+use lib.ListN.{length}
 use lib.Dec.{ltb}
-use Rattle.meaning.specs.Syntax.{Sort, Mode, Signature, Term, Branches, Constructor, File}
-use Rattle.meaning.specs.Syntax.{GV, AT, MK, CL, TL, OP, LK, NU, AR, IF, BR, end}
-use Rattle.meaning.specs.Outcome.{Outcome, ok}
-use Rattle.meaning.specs.Ownership.{Kind, Slot, Slots, bind, check, kind-owned}
+use Rattle.meaning.specs.Syntax.{Sort, Term, Constructor, File}
+use Rattle.meaning.specs.Syntax.{GV, AT, MK, CL, TL, OP, LK, NU, AR, IF, end}
+use Rattle.meaning.specs.Outcome.{ok}
+use Rattle.meaning.specs.Ownership.{Slots, bind, check, kind-owned}
 use Rattle.meaning.specs.Derivation.{Split, Has}
 use Rattle.meaning.specs.Plain.{Value, arithmetic, branch}
-use Rattle.meaning.specs.Machine.{Held, Store, Frame, State, state, Step, finished, stuck, word, held, word-at, constructor-of, argued, without, step, body-of, function-of}
+use Rattle.meaning.specs.Machine.{Held, Store, Frame, State, state, Step, finished, stuck, word, held, constructor-of, argued, without, step, body-of, function-of}
 use Rattle.meaning.specs.Machine as M
 use Rattle.meaning.specs.InPlace.{after}
-use Rattle.theory.proofs.Splits.{swap}
-use Rattle.theory.proofs.Handing.{value-at}
 use Rattle.theory.proofs.Rep.{Holds, Match, Same, has-part}
 use Rattle.theory.proofs.Matching.{match-keep}
 use Rattle.theory.proofs.Sim.{Formed, Once, once-apart, once-part, Ready, Accepted, give, at-ready, nu-ready, ar-ready, if-ready, op-ready, lk-ready, called-ready, resumed, mk-ready, made-store, opened-slots, looked-slots, tl-ready, cl-ready}

@@ -1,14 +1,13 @@
 -- What `take` tests, as one statement both ways. Assumes nothing.
-use Prim.Native.Nat.{ℕ, zero, suc, _+_}
+use Prim.Native.Nat.{ℕ}
 use mathlib.Core.Bool.{Bool, true, false, not, _||_}
-use mathlib.Core.List.{List, [], _∷_, _++_, map}
 use mathlib.Core.Option.{Option, none, some}
-use mathlib.Core.Path.{_≡_, refl, sym, ap, _∙_, subst}
+use mathlib.Core.Path.{_≡_, refl, ap}
 use native.Mathlib.Omega.{arith}
-use borrow.Author.Tests.{not-true, not-false}
-use lib.ListN.{length, getElem?, set}
+use borrow.Author.Tests.{not-true}
+use lib.ListN.{getElem?}
 use Rattle.meaning.specs.Outcome.{Outcome, ok, refuse, _>>=_, require, present}
-use Rattle.meaning.specs.Ownership.{Kind, Slot, Slots, Want, fits, sized, spends, spend, take}
+use Rattle.meaning.specs.Ownership.{Slot, Slots, Want, fits, sized, spends, spend, take}
 
 pub refused : {A : Type 0} {n p : ℕ} {a : A} → refuse n p ≡ ok a → ⊥
 refused e = let z : _≡_ {A = ℕ} 0 1 = cc in omega arith

@@ -1,20 +1,17 @@
 -- Taking a slot and splitting the context, want by want, both ways. Assumes nothing.
-use Prim.Native.Nat.{ℕ, zero, suc, _+_}
-use mathlib.Core.Bool.{Bool, true, false, not, _||_, or-false}
-use mathlib.Core.List.{List, [], _∷_, _++_, map}
-use mathlib.Core.Option.{Option, none, some}
-use mathlib.Core.Path.{_≡_, refl, sym, ap, _∙_, subst}
+use Prim.Native.Nat.{ℕ}
+use mathlib.Core.Bool.{Bool, true, false, _||_}
+use mathlib.Core.List.{List, [], _∷_}
+use mathlib.Core.Path.{_≡_, refl, sym, ap, _∙_}
 use mathlib.Core.Logic.{_⊎_, inl, inr}
 use native.Mathlib.Nat.{zero-add}
-use native.Mathlib.Omega.{arith}
-use lib.ListN.{length, getElem?, set, length-set}
-use lib.Dec.{eqb}
-use borrow.Author.Tests.{eqb-true, eq-eqb}
-use Rattle.meaning.specs.Ownership.{Kind, Slot, Slots, Want, fits, sized, spends, spend, take}
-use Rattle.meaning.specs.Derivation.{Item, own, credit, Split, left, right, Has, here, there, Context, keeping, as-number, as-lent, as-owned}
+use lib.ListN.{length, set, length-set}
+use borrow.Author.Tests.{eqb-true}
+use Rattle.meaning.specs.Ownership.{Kind, Slots, Want, fits, sized, spends, spend, take}
+use Rattle.meaning.specs.Derivation.{Item, own, credit, Split, Has, keeping, as-number, as-lent, as-owned}
 use Rattle.theory.proofs.Splits.{has-split, split-has}
 use Rattle.theory.proofs.Gather.{used-up, gather, context, taken, untouched, Stands, stands-at, leaves-at, number-places, lent-places, owned-places, slot-in, only-number, only-lent, only-own, only-credit}
-use Rattle.theory.proofs.Taking.{Takes, take-ok, take-inv}
+use Rattle.theory.proofs.Taking.{Takes}
 
 abbrev pub N : Slots → List ℕ
 N slots = gather as-number 0 slots

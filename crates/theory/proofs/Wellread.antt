@@ -1,17 +1,17 @@
 -- What reading makes sure of: AT names an atom, MK a constructor with fields, and no arity is over 4. Assumes nothing.
-use Prim.Native.Nat.{ℕ, zero, suc, _+_, _*_, _≤_, _<_}
-use mathlib.Core.Bool.{Bool, true, false, not, _&&_}
-use mathlib.Core.List.{List, [], _∷_, _++_, map}
+use Prim.Native.Nat.{ℕ, zero, suc, _+_, _≤_, _<_}
+use mathlib.Core.Bool.{Bool, true, false, _&&_}
+use mathlib.Core.List.{List, [], _∷_, _++_}
 use mathlib.Core.Option.{Option, none, some, Option·none-ne-some}
 use mathlib.Core.Path.{_≡_, refl, sym, ap, _∙_, subst}
 use native.Mathlib.Omega.{arith}
 use lib.ListN.{length, getD, getElem?, length-append}
 use borrow.Author.Tests.{ltb-true}
 use lib.Dec.{ltb, leb}
-use Rattle.meaning.specs.Syntax.{Sort, Mode, Signature, Term, Branches, Constructor, File}
+use Rattle.meaning.specs.Syntax.{Sort, Signature, Term, Branches, Constructor, File}
 use Rattle.meaning.specs.Outcome.{Outcome, ok, refuse, _>>=_}
-use Rattle.meaning.specs.Marks.{Mark, CN, FN, BD, ND, GV, AT, MK, CL, TL, OP, LK, BR, NU, AR, IF, other, find, marks}
-use Rattle.meaning.specs.Reading.{Reader, here, byte, ensure, below, times, mark, expect, declared, any, is-atom, is-node, credits, limits, node, term, branches, return, fail, bodies, between, finish, entry, header, read, constructor, signature, sort}
+use Rattle.meaning.specs.Marks.{Mark, CN, FN, BD, ND, GV, AT, MK, CL, TL, OP, LK, BR, NU, AR, IF, other}
+use Rattle.meaning.specs.Reading.{Reader, byte, ensure, below, times, mark, expect, declared, any, is-atom, is-node, credits, limits, node, term, branches, fail, bodies, between, finish, entry, header, read, constructor, signature, sort}
 use Rattle.meaning.specs.Plain.{no-body}
 use Rattle.meaning.specs.Ownership.{check-file}
 use Rattle.meaning.specs.Verdict.{accepted}

@@ -1,16 +1,15 @@
 -- A cell written, and the tree that it then holds. Assumes nothing.
-use Prim.Native.Nat.{ℕ, zero, suc, _+_, _*_, _≤_, _<_}
-use mathlib.Core.List.{List, [], _∷_, _++_, map}
-use mathlib.Core.Path.{_≡_, refl, sym, ap, _∙_, subst}
+use Prim.Native.Nat.{ℕ, suc, _+_, _*_, _≤_, _<_}
+use mathlib.Core.List.{List, [], _∷_, map}
+use mathlib.Core.Path.{_≡_, refl, sym, _∙_, subst}
 use native.Mathlib.Omega.{arith}
 use lib.ListN.{length, getD, set, length-set}
-use lib.Dec.{ltb}
 use borrow.Author.Tests.{le-ltb}
 use lib.Seq.{getD-set-same, getD-set-other}
-use Rattle.meaning.specs.Syntax.{Sort, Mode, Constructor}
-use Rattle.meaning.specs.Ownership.{Kind, Slot, Slots, fresh, kind-of, mode-owned}
-use Rattle.meaning.specs.Derivation.{Split, left, right, Has, here, there}
-use Rattle.meaning.specs.Plain.{Value, Values, node, empty, more, values}
+use Rattle.meaning.specs.Syntax.{Sort, Constructor}
+use Rattle.meaning.specs.Ownership.{Kind, fresh, kind-of, mode-owned}
+use Rattle.meaning.specs.Derivation.{Split}
+use Rattle.meaning.specs.Plain.{Value, Values, node, more, values}
 use Rattle.meaning.specs.Plain as P
 use Rattle.meaning.specs.Machine.{Held, Store, word, word-at, write, cell}
 use Rattle.theory.proofs.Splits.{nothing-left}

@@ -2,14 +2,6 @@
 use borrow.Author.Needs.{needs}
 use Rattle.machine.proofs.begin.Statement.{statement}
 use Rattle.machine.proofs.begin.Tie as tie
-use Rattle.machine.proofs.begin.Reads as reads
-use Rattle.machine.proofs.begin.Lts as lts
-use Rattle.machine.proofs.refused.Reads as refused-reads
-use Rattle.machine.proofs.start.clear.Reads as clear-reads
-use Rattle.machine.proofs.start.start_answer.Reads as start-answer-reads
-use Rattle.machine.proofs.start.wipe.Reads as wipe-reads
-use Rattle.machine.proofs.step.execute.Reads as execute-reads
-use Rattle.machine.proofs.stepped.Reads as stepped-reads
 use Rattle.machine.proofs.Running.{begin-refused, begin-begun, begin-ran}
 
 start-answer-requires : tie.Need-start-answer-requires

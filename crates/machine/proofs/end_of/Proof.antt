@@ -1,7 +1,5 @@
 use Rattle.machine.proofs.end_of.Statement.{statement}
 use Rattle.machine.proofs.end_of.Tie as tie
-use Rattle.machine.proofs.end_of.Reads as reads
-use Rattle.machine.proofs.end_of.Lts as lts
 use borrow.Author.Tests.{ne-eqb}
 use Rattle.meaning.specs.Choice.{pick}
 use Rattle.meaning.specs.Answers.{endOf}

@@ -1,13 +1,6 @@
 use borrow.Author.Needs.{needs}
 use Rattle.machine.proofs.run.Statement.{statement}
 use Rattle.machine.proofs.run.Tie as tie
-use Rattle.machine.proofs.run.Reads as reads
-use Rattle.machine.proofs.run.Lts as lts
-use Rattle.machine.proofs.begin.Reads as begin-reads
-use Rattle.checker.proofs.judge.Reads as judge-reads
-use Rattle.machine.proofs.parameters.Reads as parameters-reads
-use Rattle.machine.proofs.refused.Reads as refused-reads
-use Rattle.machine.proofs.unfit.Reads as unfit-reads
 use mathlib.Core.Path.{sym, _∙_}
 use Rattle.machine.proofs.Running.{run-refused, run-unfit, run-miscounted, run-opened}
 use Rattle.checker.proofs.Joining.{judged-accepts}

@@ -1,9 +1,6 @@
 use borrow.Author.Needs.{needs}
 use Rattle.machine.proofs.stepped.Statement.{statement}
 use Rattle.machine.proofs.stepped.Tie as tie
-use Rattle.machine.proofs.stepped.Reads as reads
-use Rattle.machine.proofs.stepped.Lts as lts
-use Rattle.machine.proofs.end_of.Reads as end-of-reads
 
 end-of-requires : tie.Need-end-of-requires
 end-of-requires c κs = search needs

@@ -1,8 +1,6 @@
 use borrow.Author.Needs.{needs}
 use Rattle.machine.proofs.unfit.Statement.{statement}
 use Rattle.machine.proofs.unfit.Tie as tie
-use Rattle.machine.proofs.unfit.Reads as reads
-use Rattle.machine.proofs.unfit.Lts as lts
 use borrow.Author.Tests.{eq-eqb, ne-eqb, lt-ltb, le-ltb}
 use Rattle.meaning.specs.Choice.{pick}
 use Rattle.machine.specs.Running.{unfitOf}

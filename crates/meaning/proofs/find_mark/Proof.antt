@@ -1,7 +1,5 @@
 use Rattle.meaning.proofs.find_mark.Statement.{statement}
 use Rattle.meaning.proofs.find_mark.Tie as tie
-use Rattle.meaning.proofs.find_mark.Reads as reads
-use Rattle.meaning.proofs.find_mark.Lts as lts
 use mathlib.Core.Path.{sym}
 use Rattle.meaning.specs.Marks.{numberOf, markOf, findMark}
 use Rattle.meaning.proofs.Table.{no-mark}

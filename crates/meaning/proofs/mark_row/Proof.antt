@@ -2,9 +2,6 @@ use borrow.Author.Needs.{needs}
 use Rattle.meaning.proofs.Table.{past-rows, next-place}
 use Rattle.meaning.proofs.mark_row.Statement.{statement}
 use Rattle.meaning.proofs.mark_row.Tie as tie
-use Rattle.meaning.proofs.mark_row.Reads as reads
-use Rattle.meaning.proofs.mark_row.Lts as lts
-use Rattle.meaning.proofs.table_row.Reads as table-row-reads
 use native.Mathlib.Omega.{arith}
 
 table-row-requires : tie.Need-table-row-requires

@@ -3,8 +3,6 @@ use mathlib.Core.Path.{refl}
 use Rattle.meaning.specs.Marks.{rowAt}
 use Rattle.meaning.proofs.table_row.Statement.{statement}
 use Rattle.meaning.proofs.table_row.Tie as tie
-use Rattle.meaning.proofs.table_row.Reads as reads
-use Rattle.meaning.proofs.table_row.Lts as lts
 
 mul-result : tie.Need-mul-result
 mul-result c = search needs

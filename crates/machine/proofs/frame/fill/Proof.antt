@@ -1,7 +1,6 @@
 -- The proof of `fill`. Assumes nothing.
 use Rattle.machine.proofs.frame.fill.Statement.{statement}
 use Rattle.machine.proofs.frame.fill.Tie as tie
-use Rattle.machine.proofs.frame.slot.Reads as slot-reads
 use Prim.Native.Nat.{_+_, _-_, _≤_}
 use mathlib.Core.Path.{_≡_, refl}
 use native.Mathlib.Omega.{arith}

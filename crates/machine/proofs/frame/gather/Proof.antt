@@ -1,7 +1,6 @@
 -- The proof of `gather`. Assumes nothing.
 use Rattle.machine.proofs.frame.gather.Statement.{statement}
 use Rattle.machine.proofs.frame.gather.Tie as tie
-use Rattle.machine.proofs.frame.slot.Reads as slot-reads
 use Prim.Native.Nat.{_+_, _-_, _≤_}
 use mathlib.Core.Path.{_≡_}
 use native.Mathlib.Omega.{arith}

@@ -1,7 +1,6 @@
 -- The proof of `hand_over`. Assumes nothing.
 use Rattle.machine.proofs.frame.hand_over.Statement.{statement}
 use Rattle.machine.proofs.frame.hand_over.Tie as tie
-use Rattle.machine.proofs.frame.slot.Reads as slot-reads
 use Prim.Native.Nat.{ℕ, _+_, _-_, _≤_, _<_}
 use mathlib.Core.Logic.{_⊎_}
 use mathlib.Core.Path.{_≡_, refl}

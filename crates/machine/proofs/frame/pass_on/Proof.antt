@@ -2,10 +2,6 @@
 use borrow.Author.Needs.{needs}
 use Rattle.machine.proofs.frame.pass_on.Statement.{statement}
 use Rattle.machine.proofs.frame.pass_on.Tie as tie
-use Rattle.machine.proofs.frame.gather.Reads as gather-reads
-use Rattle.machine.proofs.frame.hand_over.Reads as hand-over-reads
-use Rattle.machine.proofs.frame.lay.Reads as lay-reads
-use Rattle.machine.proofs.frame.rising.Reads as rising-reads
 use native.Mathlib.Omega.{arith}
 use Rattle.machine.proofs.frame.Laid.{rising-apart, gathered-laid}
 

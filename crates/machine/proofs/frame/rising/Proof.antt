@@ -1,7 +1,6 @@
 -- The proof of `rising`. Assumes nothing.
 use Rattle.machine.proofs.frame.rising.Statement.{statement}
 use Rattle.machine.proofs.frame.rising.Tie as tie
-use Rattle.machine.proofs.frame.byte.Reads as byte-reads
 use Prim.Native.Nat.{ℕ, _+_, _-_, _≤_, _<_}
 use native.Mathlib.Omega.{arith}
 use Rattle.standing.specs.Bytes.{byteAt}

@@ -2,7 +2,6 @@
 use borrow.Author.Needs.{needs}
 use Rattle.machine.proofs.frame.slot.Statement.{statement}
 use Rattle.machine.proofs.frame.slot.Tie as tie
-use Rattle.machine.proofs.frame.byte.Reads as byte-reads
 
 byte-requires : tie.Need-byte-requires
 byte-requires c κs = search needs

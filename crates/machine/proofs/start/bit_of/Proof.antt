@@ -2,7 +2,6 @@
 use borrow.Author.Needs.{needs}
 use Rattle.machine.proofs.start.bit_of.Statement.{statement}
 use Rattle.machine.proofs.start.bit_of.Tie as tie
-use Rattle.machine.proofs.start.byte_at.Reads as byte-at-reads
 use mathlib.Core.Path.{sym, _∙_}
 use native.Mathlib.Omega.{arith}
 use borrow.Author.Tests.{le-leb, lt-leb, eq-eqb, ne-eqb}

@@ -1,9 +1,6 @@
 use borrow.Author.Needs.{needs}
 use Rattle.machine.proofs.start.bump_cell.Statement.{statement}
 use Rattle.machine.proofs.start.bump_cell.Tie as tie
-use Rattle.machine.proofs.start.bump_cell.Reads as reads
-use Rattle.machine.proofs.start.bump_cell.Lts as lts
-use Rattle.machine.proofs.start.bump_to.Reads as bump-to-reads
 use borrow.Author.Tests.{eq-eqb, ne-eqb}
 use Rattle.meaning.specs.Choice.{pick}
 use Rattle.machine.specs.StartArea.{bump}

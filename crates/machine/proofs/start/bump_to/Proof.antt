@@ -1,9 +1,6 @@
 use borrow.Author.Needs.{needs}
 use Rattle.machine.proofs.start.bump_to.Statement.{statement}
 use Rattle.machine.proofs.start.bump_to.Tie as tie
-use Rattle.machine.proofs.start.bump_to.Reads as reads
-use Rattle.machine.proofs.start.bump_to.Lts as lts
-use Rattle.std.proofs.num.wrapping_add_u32.Reads as wrapping-add-u32-reads
 use Prim.Native.Nat.{_+_}
 use mathlib.Core.Path.{sym, _∙_}
 use native.Mathlib.Omega.{arith}

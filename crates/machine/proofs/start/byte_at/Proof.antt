@@ -1,8 +1,6 @@
 use borrow.Author.Needs.{needs}
 use Rattle.machine.proofs.start.byte_at.Statement.{statement}
 use Rattle.machine.proofs.start.byte_at.Tie as tie
-use Rattle.machine.proofs.start.byte_at.Reads as reads
-use Rattle.machine.proofs.start.byte_at.Lts as lts
 use mathlib.Core.Path.{refl, sym}
 use native.Mathlib.Omega.{arith}
 use lib.ListN.{List·getD-eq-default}

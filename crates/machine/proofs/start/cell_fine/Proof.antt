@@ -2,7 +2,6 @@
 use borrow.Author.Needs.{needs}
 use Rattle.machine.proofs.start.cell_fine.Statement.{statement}
 use Rattle.machine.proofs.start.cell_fine.Tie as tie
-use Rattle.machine.proofs.start.numbers_in.Reads as numbers-in-reads
 use Prim.Native.Nat.{_*_}
 use native.Mathlib.Omega.{arith}
 use borrow.Author.Tests.{le-leb, lt-leb, lt-ltb, le-ltb, eq-eqb, ne-eqb}

@@ -1,7 +1,5 @@
 use Rattle.machine.proofs.start.clear.Statement.{statement}
 use Rattle.machine.proofs.start.clear.Tie as tie
-use Rattle.machine.proofs.start.clear.Reads as reads
-use Rattle.machine.proofs.start.clear.Lts as lts
 use Prim.Native.Nat.{_+_, _-_, _≤_}
 use mathlib.Core.Path.{_≡_, refl, sym, ap, _∙_}
 use native.Mathlib.Omega.{arith}

@@ -2,7 +2,6 @@
 use borrow.Author.Needs.{needs}
 use Rattle.machine.proofs.start.code_of.Statement.{statement}
 use Rattle.machine.proofs.start.code_of.Tie as tie
-use Rattle.machine.proofs.start.bit_of.Reads as bit-of-reads
 use native.Mathlib.Omega.{arith}
 use Rattle.machine.specs.StartWords.{codeFrom}
 

@@ -1,7 +1,6 @@
 -- The proof of `codes_of`. Assumes nothing.
 use Rattle.machine.proofs.start.codes_of.Statement.{statement}
 use Rattle.machine.proofs.start.codes_of.Tie as tie
-use Rattle.machine.proofs.start.code_of.Reads as code-of-reads
 use Prim.Native.Nat.{ℕ, _-_, _%_, _≤_, _<_}
 use mathlib.Core.Path.{_≡_}
 use native.Mathlib.Omega.{arith}

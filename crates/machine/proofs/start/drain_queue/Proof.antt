@@ -1,7 +1,6 @@
 -- The proof of `drain_queue`. Assumes nothing.
 use Rattle.machine.proofs.start.drain_queue.Statement.{statement}
 use Rattle.machine.proofs.start.drain_queue.Tie as tie
-use Rattle.machine.proofs.start.expand.Reads as expand-reads
 use Prim.Native.Nat.{_+_, _-_, _≤_}
 use mathlib.Core.Path.{_≡_, refl, sym, ap, _∙_}
 use native.Mathlib.Omega.{arith}

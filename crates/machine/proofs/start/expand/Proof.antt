@@ -2,7 +2,6 @@
 use borrow.Author.Needs.{needs}
 use Rattle.machine.proofs.start.expand.Statement.{statement}
 use Rattle.machine.proofs.start.expand.Tie as tie
-use Rattle.machine.proofs.start.name_fields.Reads as name-fields-reads
 use Prim.Native.Nat.{_*_}
 use mathlib.Core.Path.{refl}
 use native.Mathlib.Omega.{arith}

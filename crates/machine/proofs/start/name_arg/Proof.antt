@@ -2,8 +2,6 @@
 use borrow.Author.Needs.{needs}
 use Rattle.machine.proofs.start.name_arg.Statement.{statement}
 use Rattle.machine.proofs.start.name_arg.Tie as tie
-use Rattle.machine.proofs.start.mode_of.Reads as mode-of-reads
-use Rattle.machine.proofs.start.name_word.Reads as name-word-reads
 use mathlib.Core.Path.{refl, sym, _∙_}
 use native.Mathlib.Omega.{arith}
 use borrow.Author.Tests.{eq-eqb, ne-eqb}

@@ -1,7 +1,6 @@
 -- The proof of `name_args`. Assumes nothing.
 use Rattle.machine.proofs.start.name_args.Statement.{statement}
 use Rattle.machine.proofs.start.name_args.Tie as tie
-use Rattle.machine.proofs.start.name_arg.Reads as name-arg-reads
 use Prim.Native.Nat.{suc, _+_, _-_, _≤_}
 use mathlib.Core.Path.{_≡_, refl, sym, ap, _∙_}
 use native.Mathlib.Omega.{arith}

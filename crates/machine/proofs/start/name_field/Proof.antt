@@ -2,7 +2,6 @@
 use borrow.Author.Needs.{needs}
 use Rattle.machine.proofs.start.name_field.Statement.{statement}
 use Rattle.machine.proofs.start.name_field.Tie as tie
-use Rattle.machine.proofs.start.name_word.Reads as name-word-reads
 use mathlib.Core.Path.{refl}
 use native.Mathlib.Omega.{arith}
 use borrow.Author.Tests.{eq-eqb, ne-eqb}

@@ -1,8 +1,7 @@
 -- The proof of `name_fields`. Assumes nothing.
 use Rattle.machine.proofs.start.name_fields.Statement.{statement}
 use Rattle.machine.proofs.start.name_fields.Tie as tie
-use Rattle.machine.proofs.start.name_field.Reads as name-field-reads
-use Prim.Native.Nat.{suc, _+_, _-_, _/_, _≤_, _<_}
+use Prim.Native.Nat.{suc, _+_, _-_, _≤_, _<_}
 use mathlib.Core.Path.{_≡_, refl, sym, ap, _∙_, subst}
 use native.Mathlib.Omega.{arith}
 use lib.ListN.{length}

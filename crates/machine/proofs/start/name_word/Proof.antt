@@ -2,8 +2,6 @@
 use borrow.Author.Needs.{needs}
 use Rattle.machine.proofs.start.name_word.Statement.{statement}
 use Rattle.machine.proofs.start.name_word.Tie as tie
-use Rattle.machine.proofs.start.bump_cell.Reads as bump-cell-reads
-use Rattle.machine.proofs.start.word_fine.Reads as word-fine-reads
 use mathlib.Core.Path.{refl, sym, _∙_}
 use native.Mathlib.Omega.{arith}
 use borrow.Author.Tests.{le-leb, lt-leb, not-true, not-false}

@@ -1,7 +1,5 @@
 use Rattle.machine.proofs.start.number_arg.Statement.{statement}
 use Rattle.machine.proofs.start.number_arg.Tie as tie
-use Rattle.machine.proofs.start.number_arg.Reads as reads
-use Rattle.machine.proofs.start.number_arg.Lts as lts
 use borrow.Author.Tests.{eq-eqb, ne-eqb}
 use Rattle.meaning.specs.Choice.{pick}
 use Rattle.machine.specs.StartWords.{numberArg}

@@ -1,9 +1,5 @@
 use Rattle.machine.proofs.start.numbers_fine.Statement.{statement}
 use Rattle.machine.proofs.start.numbers_fine.Tie as tie
-use Rattle.machine.proofs.start.numbers_fine.Reads as reads
-use Rattle.machine.proofs.start.numbers_fine.Lts as lts
-use Rattle.machine.proofs.start.mode_of.Reads as mode-of-reads
-use Rattle.machine.proofs.start.number_arg.Reads as number-arg-reads
 use Prim.Native.Nat.{suc, _+_, _-_, _≤_}
 use mathlib.Core.Path.{_≡_, sym, ap, _∙_}
 use native.Mathlib.Omega.{arith}

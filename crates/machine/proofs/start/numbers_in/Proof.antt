@@ -1,8 +1,7 @@
 -- The proof of `numbers_in`. Assumes nothing.
 use Rattle.machine.proofs.start.numbers_in.Statement.{statement}
 use Rattle.machine.proofs.start.numbers_in.Tie as tie
-use Rattle.machine.proofs.start.number_fine.Reads as number-fine-reads
-use Prim.Native.Nat.{suc, _+_, _-_, _/_, _≤_, _<_}
+use Prim.Native.Nat.{suc, _+_, _-_, _≤_, _<_}
 use mathlib.Core.Path.{_≡_, sym, ap, _∙_, subst}
 use native.Mathlib.Omega.{arith}
 use borrow.Author.Tests.{not-true, not-false}

@@ -2,12 +2,6 @@
 use borrow.Author.Needs.{needs}
 use Rattle.machine.proofs.start.start_answer.Statement.{statement}
 use Rattle.machine.proofs.start.start_answer.Tie as tie
-use Rattle.machine.proofs.start.codes_of.Reads as codes-of-reads
-use Rattle.machine.proofs.start.numbers_fine.Reads as numbers-fine-reads
-use Rattle.machine.proofs.start.used_once.Reads as used-once-reads
-use Rattle.machine.proofs.start.walk_free.Reads as walk-free-reads
-use Rattle.machine.proofs.start.walk_lent.Reads as walk-lent-reads
-use Rattle.machine.proofs.start.walk_owned.Reads as walk-owned-reads
 use mathlib.Core.Path.{refl, sym, _∙_}
 use native.Mathlib.Omega.{arith}
 use borrow.Author.Tests.{lt-ltb, le-ltb, not-true, not-false}

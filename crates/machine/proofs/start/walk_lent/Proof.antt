@@ -2,8 +2,6 @@
 use borrow.Author.Needs.{needs}
 use Rattle.machine.proofs.start.walk_lent.Statement.{statement}
 use Rattle.machine.proofs.start.walk_lent.Tie as tie
-use Rattle.machine.proofs.start.drain_queue.Reads as drain-queue-reads
-use Rattle.machine.proofs.start.name_args.Reads as name-args-reads
 use native.Mathlib.Omega.{arith}
 use Rattle.machine.specs.StartArea.{area}
 use Rattle.machine.proofs.start.Goes.{went-bad, went-after, all-stops, all-goes}

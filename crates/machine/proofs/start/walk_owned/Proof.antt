@@ -2,9 +2,6 @@
 use borrow.Author.Needs.{needs}
 use Rattle.machine.proofs.start.walk_owned.Statement.{statement}
 use Rattle.machine.proofs.start.walk_owned.Tie as tie
-use Rattle.machine.proofs.start.clear.Reads as clear-reads
-use Rattle.machine.proofs.start.drain_queue.Reads as drain-queue-reads
-use Rattle.machine.proofs.start.name_args.Reads as name-args-reads
 use Prim.Native.Nat.{_/_}
 use mathlib.Core.Path.{ap, _∙_}
 use native.Mathlib.Omega.{arith}

@@ -1,7 +1,5 @@
 use Rattle.machine.proofs.start.wipe.Statement.{statement}
 use Rattle.machine.proofs.start.wipe.Tie as tie
-use Rattle.machine.proofs.start.wipe.Reads as reads
-use Rattle.machine.proofs.start.wipe.Lts as lts
 use Prim.Native.Nat.{_-_, _≤_}
 use mathlib.Core.Path.{_≡_, refl, ap, _∙_}
 use native.Mathlib.Omega.{arith}

@@ -2,7 +2,6 @@
 use borrow.Author.Needs.{needs}
 use Rattle.machine.proofs.start.word_fine.Statement.{statement}
 use Rattle.machine.proofs.start.word_fine.Tie as tie
-use Rattle.machine.proofs.start.cell_fine.Reads as cell-fine-reads
 use borrow.Author.Tests.{le-leb, lt-leb}
 use Rattle.meaning.specs.Choice.{pick}
 use Rattle.machine.specs.StartWords.{wordFine}

@@ -2,11 +2,6 @@
 use borrow.Author.Needs.{needs}
 use Rattle.machine.proofs.step.arith.Statement.{statement}
 use Rattle.machine.proofs.step.arith.Tie as tie
-use Rattle.machine.proofs.frame.bind.Reads as bind-reads
-use Rattle.machine.proofs.frame.byte.Reads as byte-reads
-use Rattle.machine.proofs.frame.finish.Reads as finish-reads
-use Rattle.machine.proofs.frame.slot.Reads as slot-reads
-use Rattle.machine.proofs.step.sum.Reads as sum-reads
 use native.Mathlib.Omega.{arith}
 use mathlib.Core.Path.{sym}
 use borrow.Author.Tests.{lt-ltb, le-ltb}

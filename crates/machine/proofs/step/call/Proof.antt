@@ -2,12 +2,6 @@
 use borrow.Author.Needs.{needs}
 use Rattle.machine.proofs.step.call.Statement.{statement}
 use Rattle.machine.proofs.step.call.Tie as tie
-use Rattle.machine.proofs.frame.byte.Reads as byte-reads
-use Rattle.machine.proofs.frame.finish.Reads as finish-reads
-use Rattle.machine.proofs.frame.hand_over.Reads as hand-over-reads
-use Rattle.machine.proofs.step.body.Reads as body-reads
-use Rattle.machine.proofs.step.larger.Reads as larger-reads
-use Rattle.machine.proofs.step.params.Reads as params-reads
 use native.Mathlib.Omega.{arith}
 use mathlib.Core.Path.{ap, _∙_}
 use Prim.Native.Nat.{_+_, _*_}

@@ -2,9 +2,6 @@
 use borrow.Author.Needs.{needs}
 use Rattle.machine.proofs.step.choose.Statement.{statement}
 use Rattle.machine.proofs.step.choose.Tie as tie
-use Rattle.machine.proofs.frame.go_to.Reads as go-to-reads
-use Rattle.machine.proofs.frame.slot.Reads as slot-reads
-use Rattle.machine.proofs.step.end_of.Reads as end-of-reads
 use native.Mathlib.Omega.{arith}
 use mathlib.Core.Path.{refl, sym, _∙_}
 use Rattle.machine.proofs.step.Ends.{keeps-same}

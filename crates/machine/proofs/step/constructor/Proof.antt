@@ -2,7 +2,6 @@
 use borrow.Author.Needs.{needs}
 use Rattle.machine.proofs.step.constructor.Statement.{statement}
 use Rattle.machine.proofs.step.constructor.Tie as tie
-use Rattle.machine.proofs.frame.wide.Reads as wide-reads
 use native.Mathlib.Omega.{arith}
 use borrow.Author.Tests.{lt-ltb, le-ltb}
 use Rattle.machine.specs.Layout.{conOf}

@@ -2,8 +2,6 @@
 use borrow.Author.Needs.{needs}
 use Rattle.machine.proofs.step.end_of.Statement.{statement}
 use Rattle.machine.proofs.step.end_of.Tie as tie
-use Rattle.machine.proofs.frame.wide.Reads as wide-reads
-use Rattle.machine.proofs.step.skip_term.Reads as skip-term-reads
 use native.Mathlib.Omega.{arith}
 use Rattle.machine.proofs.step.Skipping.{skips-one, skips-safe}
 use Rattle.machine.proofs.step.Ends.{keeps-same, end-kept, end-laid}

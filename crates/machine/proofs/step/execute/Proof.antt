@@ -2,8 +2,6 @@
 use borrow.Author.Needs.{needs}
 use Rattle.machine.proofs.step.execute.Statement.{statement}
 use Rattle.machine.proofs.step.execute.Tie as tie
-use Rattle.machine.proofs.step.first_state.Reads as first-state-reads
-use Rattle.machine.proofs.step.go.Reads as go-reads
 use mathlib.Core.Path.{_∙_}
 use Rattle.machine.proofs.step.First.{first-fit, first-run, first-small, first-behind}
 

@@ -1,8 +1,6 @@
 -- The proof of `find_branch`. Assumes nothing.
 use Rattle.machine.proofs.step.find_branch.Statement.{statement}
 use Rattle.machine.proofs.step.find_branch.Tie as tie
-use Rattle.machine.proofs.frame.byte.Reads as byte-reads
-use Rattle.machine.proofs.step.end_of.Reads as end-of-reads
 use native.Mathlib.Omega.{arith}
 use Prim.Native.Nat.{ℕ, _≤_}
 use mathlib.Core.Path.{refl}

@@ -2,8 +2,6 @@
 use borrow.Author.Needs.{needs}
 use Rattle.machine.proofs.step.first_state.Statement.{statement}
 use Rattle.machine.proofs.step.first_state.Tie as tie
-use Rattle.machine.proofs.frame.Frame.fresh.Reads as fresh-reads
-use Rattle.machine.proofs.step.body.Reads as body-reads
 use Rattle.machine.specs.Layout.{firstOf}
 
 body-requires : tie.Need-body-requires

@@ -2,11 +2,6 @@
 use borrow.Author.Needs.{needs}
 use Rattle.machine.proofs.step.follows.Statement.{statement}
 use Rattle.machine.proofs.step.follows.Tie as tie
-use Rattle.machine.proofs.frame.byte.Reads as byte-reads
-use Rattle.machine.proofs.step.arity.Reads as arity-reads
-use Rattle.machine.proofs.step.mark.Reads as mark-reads
-use Rattle.machine.proofs.step.params.Reads as params-reads
-use Rattle.meaning.proofs.mark_row.Reads as mark-row-reads
 use native.Mathlib.Omega.{arith}
 use mathlib.Core.Path.{sym, subst}
 use Rattle.meaning.specs.Marks.{markOf, numberOf, findMark}

@@ -2,9 +2,6 @@
 use borrow.Author.Needs.{needs}
 use Rattle.machine.proofs.step.give.Statement.{statement}
 use Rattle.machine.proofs.step.give.Tie as tie
-use Rattle.machine.proofs.frame.bind.Reads as bind-reads
-use Rattle.machine.proofs.frame.finish.Reads as finish-reads
-use Rattle.machine.proofs.frame.slot.Reads as slot-reads
 use native.Mathlib.Omega.{arith}
 use Prim.Native.Nat.{_+_, _*_, _-_}
 use borrow.Author.Tests.{eq-eqb, ne-eqb}

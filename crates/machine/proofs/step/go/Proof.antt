@@ -1,9 +1,6 @@
 -- The proof of `go`. Assumes nothing.
 use Rattle.machine.proofs.step.go.Statement.{statement}
 use Rattle.machine.proofs.step.go.Tie as tie
-use Rattle.machine.proofs.step.known_steps.Reads as known-steps-reads
-use Rattle.machine.proofs.step.place_of.Reads as place-of-reads
-use Rattle.machine.proofs.step.step.Reads as step-reads
 use native.Mathlib.Omega.{arith}
 use borrow.Author.Needs.{needs}
 use Prim.Native.Nat.{_-_, _≤_}

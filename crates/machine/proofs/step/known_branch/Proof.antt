@@ -1,8 +1,6 @@
 -- The proof of `known_branch`. Assumes nothing.
 use Rattle.machine.proofs.step.known_branch.Statement.{statement}
 use Rattle.machine.proofs.step.known_branch.Tie as tie
-use Rattle.machine.proofs.frame.byte.Reads as byte-reads
-use Rattle.machine.proofs.step.kept.Reads as kept-reads
 use native.Mathlib.Omega.{arith}
 use Prim.Native.Nat.{ℕ}
 use mathlib.Core.Path.{refl}

@@ -2,10 +2,6 @@
 use borrow.Author.Needs.{needs}
 use Rattle.machine.proofs.step.known_choose.Statement.{statement}
 use Rattle.machine.proofs.step.known_choose.Tie as tie
-use Rattle.machine.proofs.frame.finish.Reads as finish-reads
-use Rattle.machine.proofs.frame.go_to.Reads as go-to-reads
-use Rattle.machine.proofs.frame.slot.Reads as slot-reads
-use Rattle.machine.proofs.step.kept.Reads as kept-reads
 use native.Mathlib.Omega.{arith}
 use mathlib.Core.Path.{refl, sym, _∙_}
 use Rattle.machine.proofs.step.Skipping.{skips-safe}

@@ -2,18 +2,6 @@
 use borrow.Author.Needs.{needs}
 use Rattle.machine.proofs.step.known_step.Statement.{statement}
 use Rattle.machine.proofs.step.known_step.Tie as tie
-use Rattle.machine.proofs.frame.finish.Reads as finish-reads
-use Rattle.machine.proofs.step.arith.Reads as arith-reads
-use Rattle.machine.proofs.step.atom.Reads as atom-reads
-use Rattle.machine.proofs.step.call.Reads as call-reads
-use Rattle.machine.proofs.step.credit.Reads as credit-reads
-use Rattle.machine.proofs.step.give.Reads as give-reads
-use Rattle.machine.proofs.step.known_choose.Reads as known-choose-reads
-use Rattle.machine.proofs.step.known_take.Reads as known-take-reads
-use Rattle.machine.proofs.step.make.Reads as make-reads
-use Rattle.machine.proofs.step.node_mark.Reads as node-mark-reads
-use Rattle.machine.proofs.step.number.Reads as number-reads
-use Rattle.machine.proofs.step.tail.Reads as tail-reads
 use native.Mathlib.Omega.{arith}
 use mathlib.Core.Path.{refl, ap, _∙_}
 use Rattle.meaning.specs.Marks.{Mark}

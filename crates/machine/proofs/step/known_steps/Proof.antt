@@ -1,8 +1,6 @@
 -- The proof of `known_steps`. Assumes nothing.
 use Rattle.machine.proofs.step.known_steps.Statement.{statement}
 use Rattle.machine.proofs.step.known_steps.Tie as tie
-use Rattle.machine.proofs.frame.go_to.Reads as go-to-reads
-use Rattle.machine.proofs.step.known_step.Reads as known-step-reads
 use native.Mathlib.Omega.{arith}
 use borrow.Author.Needs.{needs}
 use Prim.Native.Nat.{_≤_}

@@ -2,11 +2,6 @@
 use borrow.Author.Needs.{needs}
 use Rattle.machine.proofs.step.make.Statement.{statement}
 use Rattle.machine.proofs.step.make.Tie as tie
-use Rattle.machine.proofs.frame.bind.Reads as bind-reads
-use Rattle.machine.proofs.frame.byte.Reads as byte-reads
-use Rattle.machine.proofs.frame.fill.Reads as fill-reads
-use Rattle.machine.proofs.frame.slot.Reads as slot-reads
-use Rattle.machine.proofs.step.arity.Reads as arity-reads
 use native.Mathlib.Omega.{arith}
 use mathlib.Core.Path.{ap, _∙_}
 use lib.ListN.{length-set}

@@ -2,7 +2,6 @@
 use borrow.Author.Needs.{needs}
 use Rattle.machine.proofs.step.mark.Statement.{statement}
 use Rattle.machine.proofs.step.mark.Tie as tie
-use Rattle.meaning.proofs.find_mark.Reads as find-mark-reads
 use native.Mathlib.Omega.{arith}
 use Prim.Native.Nat.{_+_}
 

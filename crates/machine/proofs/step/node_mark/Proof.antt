@@ -2,8 +2,6 @@
 use borrow.Author.Needs.{needs}
 use Rattle.machine.proofs.step.node_mark.Statement.{statement}
 use Rattle.machine.proofs.step.node_mark.Tie as tie
-use Rattle.machine.proofs.frame.byte.Reads as byte-reads
-use Rattle.machine.proofs.step.by_distance.Reads as by-distance-reads
 use native.Mathlib.Omega.{arith}
 use Prim.Native.Nat.{_+_}
 use Rattle.standing.specs.Bytes.{byteAt}

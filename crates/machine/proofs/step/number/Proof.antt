@@ -2,8 +2,6 @@
 use borrow.Author.Needs.{needs}
 use Rattle.machine.proofs.step.number.Statement.{statement}
 use Rattle.machine.proofs.step.number.Tie as tie
-use Rattle.machine.proofs.frame.bind.Reads as bind-reads
-use Rattle.machine.proofs.frame.byte.Reads as byte-reads
 use Rattle.machine.specs.Layout.{nuOf}
 
 add-byte : tie.Need-add-byte

@@ -2,10 +2,6 @@
 use borrow.Author.Needs.{needs}
 use Rattle.machine.proofs.step.opened.Statement.{statement}
 use Rattle.machine.proofs.step.opened.Tie as tie
-use Rattle.machine.proofs.frame.go_to.Reads as go-to-reads
-use Rattle.machine.proofs.frame.load.Reads as load-reads
-use Rattle.machine.proofs.frame.wide.Reads as wide-reads
-use Rattle.machine.proofs.step.arity.Reads as arity-reads
 use native.Mathlib.Omega.{arith}
 use borrow.Author.Tests.{lt-ltb, le-ltb, eq-eqb, ne-eqb}
 use Rattle.machine.specs.Layout.{openedOf}

@@ -2,9 +2,6 @@
 use borrow.Author.Needs.{needs}
 use Rattle.machine.proofs.step.pass_record.Statement.{statement}
 use Rattle.machine.proofs.step.pass_record.Tie as tie
-use Rattle.machine.proofs.step.follows.Reads as follows-reads
-use Rattle.machine.proofs.step.next_of.Reads as next-of-reads
-use Rattle.machine.proofs.step.opens.Reads as opens-reads
 use native.Mathlib.Omega.{arith}
 use mathlib.Core.Path.{ap, _∙_}
 use Rattle.machine.specs.Skips.{opensOf}

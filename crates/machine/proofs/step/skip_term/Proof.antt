@@ -1,7 +1,6 @@
 -- The proof of `skip_term`: the terms that are open stand one after the other, up to the byte after the whole term. Assumes nothing.
 use Rattle.machine.proofs.step.skip_term.Statement.{statement}
 use Rattle.machine.proofs.step.skip_term.Tie as tie
-use Rattle.machine.proofs.step.pass_record.Reads as pass-record-reads
 use native.Mathlib.Omega.{arith}
 use Prim.Native.Nat.{ℕ, _-_}
 use mathlib.Core.Path.{_≡_, refl, subst}

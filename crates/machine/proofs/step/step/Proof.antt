@@ -2,17 +2,6 @@
 use borrow.Author.Needs.{needs}
 use Rattle.machine.proofs.step.step.Statement.{statement}
 use Rattle.machine.proofs.step.step.Tie as tie
-use Rattle.machine.proofs.step.arith.Reads as arith-reads
-use Rattle.machine.proofs.step.atom.Reads as atom-reads
-use Rattle.machine.proofs.step.call.Reads as call-reads
-use Rattle.machine.proofs.step.choose.Reads as choose-reads
-use Rattle.machine.proofs.step.credit.Reads as credit-reads
-use Rattle.machine.proofs.step.give.Reads as give-reads
-use Rattle.machine.proofs.step.make.Reads as make-reads
-use Rattle.machine.proofs.step.mark.Reads as mark-reads
-use Rattle.machine.proofs.step.number.Reads as number-reads
-use Rattle.machine.proofs.step.tail.Reads as tail-reads
-use Rattle.machine.proofs.step.take_branch.Reads as take-branch-reads
 use native.Mathlib.Omega.{arith}
 use mathlib.Core.Path.{refl}
 use Rattle.meaning.specs.Marks.{Mark, markOf, findMark}

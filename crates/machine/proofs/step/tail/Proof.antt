@@ -2,10 +2,6 @@
 use borrow.Author.Needs.{needs}
 use Rattle.machine.proofs.step.tail.Statement.{statement}
 use Rattle.machine.proofs.step.tail.Tie as tie
-use Rattle.machine.proofs.frame.byte.Reads as byte-reads
-use Rattle.machine.proofs.frame.pass_on.Reads as pass-on-reads
-use Rattle.machine.proofs.step.body.Reads as body-reads
-use Rattle.machine.proofs.step.params.Reads as params-reads
 use native.Mathlib.Omega.{arith}
 use mathlib.Core.Path.{ap, _∙_}
 use Rattle.machine.specs.Layout.{tlOf}

@@ -2,8 +2,6 @@
 use borrow.Author.Needs.{needs}
 use Rattle.machine.proofs.frame.Frame.fresh.Statement.{statement}
 use Rattle.machine.proofs.frame.Frame.fresh.Tie as tie
-use Rattle.machine.proofs.frame.Frame.empty.Reads as empty-reads
-use Rattle.machine.proofs.frame.load.Reads as load-reads
 use mathlib.Core.Path.{refl}
 use Rattle.machine.proofs.frame.Laid.{words-all}
 
