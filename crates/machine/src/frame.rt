@@ -205,11 +205,18 @@ pub(crate) fn rising(file: &[u8], at: usize, n: usize) -> bool
     true
 }
 
-// The words of n slots, laid as the first slots of the same frame.
+// The words of n slots, laid as the first slots of the same frame; two without a loop.
 pub(crate) fn pass_on(file: &[u8], work: &mut [u32], base: usize, at: usize, n: usize)
     requires { ⌜ (at + n ≤ length (now file)) × (base + 256 ≤ length (now work)) × (n ≤ 8) ⌝ }
     ensures { λ _. ⌜ now (work .exit) ≡ laid (now (work .entry)) base (gathered (now (file .entry)) (now (work .entry)) base at n) ⌝ }
 {
+    if n == 2 {
+        let first = slot(file, work, base, at);
+        let second = slot(file, work, base, at + 1);
+        work[base] = first;
+        work[base + 1] = second;
+        return;
+    }
     let in_place = rising(file, at, n);
     if in_place {
         hand_over(file, work, base, at, base, n);
@@ -219,11 +226,16 @@ pub(crate) fn pass_on(file: &[u8], work: &mut [u32], base: usize, at: usize, n: 
     lay(work, base, values, n);
 }
 
-// The words of a slice from a place on, laid in the work area.
+// The words of a slice from a place on, laid in the work area; two, the commonest, without a loop.
 pub(crate) fn load(from: &[u32], work: &mut [u32], p: usize, to: usize, k: usize)
     requires { ⌜ (p + k ≤ length (now from)) × (to + k ≤ length (now work)) ⌝ }
     ensures { λ _. ⌜ now (work .exit) ≡ laid (now (work .entry)) to (words (now (from .entry)) p k) ⌝ }
 {
+    if k == 2 {
+        work[to] = from[p];
+        work[to + 1] = from[p + 1];
+        return;
+    }
     let mut j: usize = 0;
     while j < k {
         work[to + j] = from[p + j];
@@ -231,7 +243,7 @@ pub(crate) fn load(from: &[u32], work: &mut [u32], p: usize, to: usize, k: usize
     }
 }
 
-// The words of k slots, laid in the store.
+// The words of k slots, laid in the store; two without a loop.
 pub(crate) fn fill(
     file: &[u8],
     store: &mut [u32],
@@ -244,6 +256,11 @@ pub(crate) fn fill(
     requires { ⌜ (at + k ≤ length (now file)) × (base + 256 ≤ length (now work)) × (p + k ≤ length (now store)) ⌝ }
     ensures { λ _. ⌜ now (store .exit) ≡ laid (now (store .entry)) p (gathered (now (file .entry)) (now (work .entry)) base at k) ⌝ }
 {
+    if k == 2 {
+        store[p] = slot(file, work, base, at);
+        store[p + 1] = slot(file, work, base, at + 1);
+        return;
+    }
     let mut j: usize = 0;
     while j < k {
         store[p + j] = slot(file, work, base, at + j);

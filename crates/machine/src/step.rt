@@ -223,7 +223,12 @@ fn call(file: &[u8], decl: &[u32; 128], work: &mut [u32], s: State) -> State
     let q = Frame::SAVED + depth * 2;
     work[q] = (at + 3 + n) as u32;
     work[q + 1] = s.frame.bound as u32;
-    hand_over(file, work, base, at + 3, base + Frame::SLOTS, n);
+    if n == 1 {
+        let v = slot(file, work, base, at + 3);
+        work[base + Frame::SLOTS] = v;
+    } else {
+        hand_over(file, work, base, at + 3, base + Frame::SLOTS, n);
+    }
     State {
         frame: Frame {
             at: body(decl, g),

@@ -1,4 +1,4 @@
--- Words laid from a place on: where they are, and the loops that lay them one by one. Assumes nothing.
+-- Words laid from a place on: where they are, the loops that lay them one by one, and one or two laid without a loop. Assumes nothing.
 use Prim.Native.Nat.{ℕ, zero, suc, _+_, _-_, _≤_, _<_}
 use mathlib.Core.Bool.{Bool, true, false}
 use mathlib.Core.List.{List, [], _∷_}
@@ -92,6 +92,16 @@ pub end-gathered : (X m bytes work : List ℕ) (base to at n j : ℕ) → n ≤ 
 unfolding laid gathered
 end-gathered X m bytes work base to at n j h x = let a : n - j ≡ 0 = omega arith in sym (x ∙ ap (λ k. laid m (to + j) (gathered bytes work base (at + j) k)) a)
 
+-- two words, set one after the other
+pub two-words : (m l : List ℕ) (to p n : ℕ) → n ≡ 2 → set (set m to (getD l p 0)) (to + 1) (getD l (p + 1) 0) ≡ laid m to (words l p n)
+unfolding laid words
+two-words m l to p n e = rw e
+
+pub two-gathered : (m bytes work : List ℕ) (base to at n a b : ℕ) → n ≡ 2 → a ≡ slotIn bytes work base at → b ≡ slotIn bytes work base (at + 1)
+    → set (set m to a) (to + 1) b ≡ laid m to (gathered bytes work base at n)
+unfolding laid gathered
+two-gathered m bytes work base to at n a b e x y = rw (e, x, y)
+
 -- slots laid in the same list: what is not laid over yet is as it was
 pub turn-handed : (X m bytes work : List ℕ) (base to at n j v : ℕ) → j < n → v ≡ slotIn bytes m base (at + j)
     → (base + byteAt bytes (at + j) < to) ⊎ (to + j ≤ base + byteAt bytes (at + j)) → ((q : ℕ) → (q < to) ⊎ (to + j ≤ q) → getD m q 0 ≡ getD work q 0)
@@ -176,3 +186,8 @@ words-from l p (suc k) e =
 
 pub words-all : (l : List ℕ) → words l 0 (length l) ≡ l
 words-all l = words-from l 0 (length l) (omega arith)
+
+-- the one word that is gathered is set
+pub laid-one : (l bytes work : List ℕ) (to base at n : ℕ) → n ≡ 1 → set l to (slotIn bytes work base at) ≡ laid l to (gathered bytes work base at n)
+unfolding laid gathered
+laid-one l bytes work to base at n e = rw e
