@@ -1,5 +1,5 @@
-// Bodies, read and checked in one pass. A fault of reading is told from one of the ownership check, since a file that does not read is
-// refused for that, wherever its other faults stand.
+// Bodies, read and checked in one pass, which notes their calls too. A fault of reading is told from one of the ownership check, since a
+// file that does not read is refused for that, wherever its other faults stand.
 use crate::ownership::bind_all;
 use crate::ownership::bound_kind;
 use crate::ownership::branch_slots;
