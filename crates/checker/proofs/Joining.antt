@@ -1,8 +1,7 @@
--- What reading, the ownership check and the calls come to together: `judgedOf` and `verdictOf`. Assumes nothing.
+-- What the pass over the bodies and the calls come to: `judgedOf` and `verdictOf`. Assumes nothing.
 use Prim.Native.Nat.{ℕ, _<_}
 use mathlib.Core.List.{List}
 use mathlib.Core.Path.{_≡_, refl, sym, ap, _∙_, subst}
-use mathlib.Core.Logic.{inl, inr}
 use native.Mathlib.Omega.{arith}
 use lib.ListN.{length}
 use Rattle.meaning.specs.declared.Verdict.{Verdict}
@@ -19,103 +18,19 @@ use Rattle.theory.proofs.Taking.{refused}
 use Rattle.theory.proofs.Refusals.{accepted-numbers}
 use Rattle.standing.specs.Table.{Declared, tableOf}
 use Rattle.standing.proofs.Declaring.{read-declared}
-use Rattle.standing.proofs.Faults.{check-file-inside}
 use Rattle.checker.specs.declared.Judged.{Judged}
-use Rattle.checker.specs.declared.bodies.Checked.{Checked}
-use Rattle.checker.specs.declared.bodies.Checked.the-variants.{Next, Unread, Fault}
-use Rattle.checker.specs.Opening.{Ends}
 use Rattle.checker.specs.declared.reading.Reached.{Reached}
 use Rattle.checker.specs.Bodies.{Finished}
 use Rattle.checker.specs.Noting.{wordsOf, squareOf}
-use Rattle.checker.specs.Judging.{refusal, judged, judgedOf, Judging}
+use Rattle.checker.specs.Judging.{refusal, judged, judgedOf}
+use Rattle.checker.proofs.bodies.Filing.{accepted-unread, accepted-read, accepted-fine}
 use Rattle.checker.proofs.calls.Filling.{filled-length}
 use Rattle.checker.proofs.calls.Squares.{words-square}
-
--- a file that was read, with its table
-pub record Whole (f d : List ℕ) (funs : ℕ) : Type 0 where
-  pub file : File
-  pub reads : read f ≡ ok file
-  pub table : d ≡ tableOf file
-  pub many : length (file .functions) ≡ funs
-
-accepted-unread : (f : List ℕ) (n p : ℕ) → read f ≡ refuse n p → accepted f ≡ refuse n p
-unfolding accepted
-accepted-unread f n p e = rw (e, accepted)
-
-accepted-read : (f : List ℕ) (file : File) (n p : ℕ) → read f ≡ ok file → check-file file ≡ refuse n p → accepted f ≡ refuse n p
-unfolding accepted
-accepted-read f file n p e c = rw (e, c, accepted)
-
-accepted-fine : (f : List ℕ) (file : File) → read f ≡ ok file → check-file file ≡ ok tt → accepted f ≡ ok file
-unfolding accepted
-accepted-fine f file e c = rw (e, c, accepted)
 
 judged-is : (f : List ℕ) (o : Outcome File) → accepted f ≡ o → judged o ≡ judgedOf f
 unfolding judgedOf
 judged-is f o e = sym (ap judged e)
 
--- of a file that is refused no calls are told
-pub refused-judging : {f : List ℕ} {n p : ℕ} → accepted f ≡ refuse n p → (c : List ℕ) {r : Judged} → r ≡ refusal n p → Judging f c r
-refused-judging {f} {n} {p} q c {r} e = record {
-  answer = e ∙ judged-is f (refuse n p) q;
-  words = λ z. let a : r .number ≡ n = ap (λ x. x .number) e in absurd (omega (arith, accepted-numbers f q));
-}
-
-module _ (f d : List ℕ) (r : Reached) (e : Ends f d (r .count) (r .at) (r .number)) where
-  pub ends-place : (r .number ≡ 0 → ⊥) → r .at < 4294967296
-  unfolding Ends
-  ends-place n = go e
-    where
-      go : Ends f d (r .count) (r .at) (r .number) → r .at < 4294967296
-      go (inl h) = absurd (n (h .0))
-      go (inr h) = omega (arith, h .2)
-
-  pub ends-refused : (r .number ≡ 0 → ⊥) → accepted f ≡ refuse (r .number) (r .at)
-  unfolding Ends
-  ends-refused n = go e
-    where
-      go : Ends f d (r .count) (r .at) (r .number) → accepted f ≡ refuse (r .number) (r .at)
-      go (inl h) = absurd (n (h .0))
-      go (inr h) = accepted-unread f (r .number) (r .at) (h .1)
-
-  pub ends-whole : r .number ≡ 0 → Whole f d (r .count)
-  unfolding Ends
-  ends-whole z = go e
-    where
-      go : Ends f d (r .count) (r .at) (r .number) → Whole f d (r .count)
-      go (inl h) = record { file = h .1; reads = h .2; table = h .3; many = h .4 }
-      go (inr h) = absurd (omega (arith, h .0))
-
-module _ {f d : List ℕ} {funs : ℕ} (w : Whole f d funs) where
-  pub whole-declared : Declared (w .file) f d
-  whole-declared = subst (λ t. Declared (w .file) f t) (sym (w .table)) (read-declared f (w .file) (w .reads))
-
--- what the pass over the bodies says
-module _ (f d c : List ℕ) {r : Checked} (F : Finished f d c r) where
-  pub next-judging : {m : ℕ} → r ≡ Next m → Judging f c (record { number = 0; place = 0; table = d })
-  next-judging {m} e =
-      let w = F .next m e in
-      let a = accepted-fine f (w .0) (w .1) (w .3) in
-      record { answer = ap (λ t. record { number = 0; place = 0; table = t }) (w .2) ∙ judged-is f (ok (w .0)) a; words = λ z. (w .0, a, w .4) }
-
-  pub unread-place : {n p : ℕ} → r ≡ Unread n p → p < 4294967296
-  unread-place {n} {p} e = let w = F .unread n p e in omega (arith, w .2)
-
-  pub unread-refused : {n p : ℕ} → r ≡ Unread n p → accepted f ≡ refuse n p
-  unread-refused {n} {p} e = accepted-unread f n p (F .unread n p e .1)
-
-  -- a fault of the ownership check, in a file that reads
-  module _ {n p : ℕ} (e : r ≡ Fault n p) {t : List ℕ} {funs : ℕ} (w : Whole f t funs) where
-    pub fault-place : p < 4294967296
-    fault-place =
-        let D = whole-declared w in
-        let h = check-file-inside (w .file) f t D (F .fault n p e (w .file) (w .reads)) in
-        omega (arith, h, D .size)
-
-    pub fault-refused : accepted f ≡ refuse n p
-    fault-refused = accepted-read f (w .file) n p (w .reads) (F .fault n p e (w .file) (w .reads))
-
--- the verdict, by what was judged
 told-refused : (f : List ℕ) (n p : ℕ) → accepted f ≡ refuse n p → verdict.Refused n p ≡ verdictOf f
 unfolding verdictOf checking.verdict
 told-refused f n p e = rw (e, checking.verdict)
@@ -136,17 +51,37 @@ read-of f file q = go (read f) refl
     go (ok g) r = checked-of g (check-file g) refl r
     go (refuse m p) r = absurd (refused (sym (accepted-unread f m p r) ∙ q))
 
-module _ (f : List ℕ) {j : Judged} (e : j ≡ judgedOf f) where
-  pub judged-refused : (j .number ≡ 0 → ⊥) → verdict.Refused (j .number) (j .place) ≡ verdictOf f
-  unfolding judgedOf
-  judged-refused n = go (accepted f) refl
-    where
-      go : (o : Outcome File) → accepted f ≡ o → verdict.Refused (j .number) (j .place) ≡ verdictOf f
-      go (ok file) q = absurd (n (ap (λ x. x .number) (e ∙ ap judged q)))
-      go (refuse m p) q =
-          let a : j ≡ refusal m p = e ∙ ap judged q in
-          (λ i. verdict.Refused (a i .number) (a i .place)) ∙ told-refused f m p q
+-- by what the pass over the bodies says
+module _ (f d c : List ℕ) (r : Reached) (F : Finished f d c r) where
+  pub place-low : (r .number ≡ 0 → ⊥) → r .at < 4294967296
+  place-low n = omega (arith, F .refused n .1)
 
+  pub refused-judged : (r .number ≡ 0 → ⊥) → {j : Judged} → j ≡ refusal (r .number) (r .at) → j ≡ judgedOf f
+  refused-judged n e = e ∙ judged-is f (refuse (r .number) (r .at)) (F .refused n .0)
+
+  pub fine-judged : r .number ≡ 0 → record { number = 0; place = 0; table = d } ≡ judgedOf f
+  fine-judged z = let w = F .fine z in ap (λ t. record { number = 0; place = 0; table = t }) (w .2) ∙ judged-is f (ok (w .0)) (w .1)
+
+  pub refused-told : (r .number ≡ 0 → ⊥) → verdict.Refused (r .number) (r .at) ≡ verdictOf f
+  refused-told n = told-refused f (r .number) (r .at) (F .refused n .0)
+
+  pub words-wide : r .number ≡ 0 → length c ≡ 32
+  unfolding wordsOf
+  words-wide z =
+      let w = F .fine z in
+      let D = read-declared f (w .0) (read-of f (w .0) (w .1)) in
+      ap length (w .3) ∙ filled-length 0 (length (w .0 .bodies)) _ (omega (arith, D .many, D .functions))
+
+  pub words-told : r .number ≡ 0 → {v : Verdict} → v ≡ told (ok (judge (squareOf c))) → v ≡ verdictOf f
+  unfolding shape
+  words-told z e =
+      let w = F .fine z in
+      e
+      ∙ ap (λ s. told (ok (judge s))) (ap squareOf (w .3) ∙ words-square f (w .0) (read-of f (w .0) (w .1)))
+      ∙ told-accepted f (w .0) (w .1)
+
+-- what an answer of `judgedOf` says of the file
+module _ (f : List ℕ) {j : Judged} (e : j ≡ judgedOf f) where
   pub judged-refuses : (j .number ≡ 0 → ⊥) → accepted f ≡ refuse (j .number) (j .place)
   unfolding judgedOf
   judged-refuses n = go (accepted f) refl
@@ -173,18 +108,3 @@ module _ (f : List ℕ) {j : Judged} (e : j ≡ judgedOf f) where
 
   pub accepts-declared : (a : Accepts) → Declared (a .file) f (j .table)
   accepts-declared a = subst (λ t. Declared (a .file) f t) (sym (a .table)) (read-declared f (a .file) (read-of f (a .file) (a .fine)))
-
--- the words of an accepted file, and the verdict by them
-module _ (f c : List ℕ) (w : (file : File) × (accepted f ≡ ok file) × (c ≡ wordsOf file)) where
-  pub words-wide : length c ≡ 32
-  unfolding wordsOf
-  words-wide =
-      let D = read-declared f (w .0) (read-of f (w .0) (w .1)) in
-      ap length (w .2) ∙ filled-length 0 (length (w .0 .bodies)) _ (omega (arith, D .many, D .functions))
-
-  pub words-told : {v : Verdict} → v ≡ told (ok (judge (squareOf c))) → v ≡ verdictOf f
-  unfolding shape
-  words-told e =
-      e
-      ∙ ap (λ s. told (ok (judge s))) (ap squareOf (w .2) ∙ words-square f (w .0) (read-of f (w .0) (w .1)))
-      ∙ told-accepted f (w .0) (w .1)

@@ -1,6 +1,6 @@
 -- What the pass over the bodies asks for and answers: reading's answer, told by `ReadsTerm`, the ownership check's, told by `Judged`, and the
 -- calls, told by `Noted`, of one and the same term. Assumes nothing.
-use Prim.Native.Nat.{ℕ, _+_, _≤_, _<_}
+use Prim.Native.Nat.{ℕ, _+_, _≤_}
 use mathlib.Core.Bool.{Bool, true, false}
 use mathlib.Core.List.{List}
 use mathlib.Core.Path.{_≡_}
@@ -12,17 +12,15 @@ use Rattle.meaning.specs.Choice.{pick}
 use Rattle.meaning.specs.Marks.{findMark}
 use Rattle.meaning.specs.Syntax.{File}
 use Rattle.meaning.specs.Outcome.{ok, refuse}
-use Rattle.meaning.specs.Reading.{read}
-use Rattle.meaning.specs.Ownership.{check-file}
+use Rattle.meaning.specs.Verdict.{accepted}
 use Rattle.standing.specs.Bytes.{byteAt, markAt}
 use Rattle.standing.specs.Table.{tableOf}
 use Rattle.checker.specs.declared.reading.Path.{Path}
 use Rattle.checker.specs.declared.reading.Read.{Read}
-use Rattle.checker.specs.declared.reading.Read.the-variants as read′
-use Rattle.checker.specs.declared.bodies.Checked.{Checked}
-use Rattle.checker.specs.declared.bodies.Checked.the-variants.{Next, Unread, Fault}
+use Rattle.checker.specs.declared.reading.Read.the-variants.{Next, Fault}
+use Rattle.checker.specs.declared.reading.Reached.{Reached}
 use Rattle.checker.specs.declared.bodies.Plain.{Plain}
-use Rattle.checker.specs.Reads.{ReadsTerm, ReadsBranches}
+use Rattle.checker.specs.Reads.{From, ReadsTerm, ReadsBranches}
 use Rattle.checker.specs.Opening.{ReadsBody}
 use Rattle.checker.specs.Ownership.{twoOf}
 use Rattle.checker.specs.Noting.{wordsOf}
@@ -59,28 +57,52 @@ pub record Plainly (f : List ℕ) (at : ℕ) (slots : List Slot) (p : Path) (r :
   pub few-slots : r .path .slots ≤ 32
   pub few-nodes : r .path .nodes ≤ 64
   pub reads : (d : List ℕ) (q : Read) → ReadsTerm f d (r .at) (r .path) q → ReadsTerm f d at p q
-  pub judged : (d : List ℕ) (result : ℕ) (c : Checked) → Judged f d (r .at) result (r .slots) (r .path .slots) c → Judged f d at result slots (p .slots) c
+  pub judged : (d : List ℕ) (result : ℕ) (c : Read) → Judged f d (r .at) result (r .slots) (r .path .slots) c → Judged f d at result slots (p .slots) c
   pub noted : (d : List ℕ) (result w w′ : ℕ) → Noted f d (r .at) result (r .path .slots) w w′ → Noted f d at result (p .slots) w w′
 
--- a term that reads and has nothing wrong, whose calls were noted; or one that does not read; or a fault of the ownership check, which is the answer if it reads
-pub record Passed (f d : List ℕ) (at result : ℕ) (slots : List Slot) (p : Path) (w w′ : ℕ) (r : Checked) : Type 0 where
-  pub next : (n : ℕ) → r ≡ Next n → (at < n) × (n ≤ length f) × ReadsTerm f d at p (read′.Next n) × Judged f d at result slots (p .slots) (Next n) × Noted f d at result (p .slots) w w′
-  pub unread : (x q : ℕ) → r ≡ Unread x q → (0 < x) × (q ≤ length f) × ReadsTerm f d at p (read′.Fault x q)
-  pub fault : (x q : ℕ) → r ≡ Fault x q → Judged f d at result slots (p .slots) (Fault x q)
+-- the first fault, by its number and its place, once a record was looked at: 0 is none
+unfoldable pub faultAfter : (fault number : ℕ) → ℕ
+faultAfter x n = pick (eqb x 0) n x
 
-pub record PassedAll (f d : List ℕ) (at count credit result : ℕ) (slots : List Slot) (p : Path) (w w′ : ℕ) (r : Checked) : Type 0 where
-  pub next : (n : ℕ) → r ≡ Next n → (at ≤ n) × (n ≤ length f) × ReadsBranches f d at count credit p (read′.Next n) × JudgedAll f d at count credit 0 result slots (p .slots) (Next n) × NotedAll f d at count credit result (p .slots) w w′
-  pub unread : (x q : ℕ) → r ≡ Unread x q → (0 < x) × (q ≤ length f) × ReadsBranches f d at count credit p (read′.Fault x q)
-  pub fault : (x q : ℕ) → r ≡ Fault x q → JudgedAll f d at count credit 0 result slots (p .slots) (Fault x q)
+unfoldable pub placeAfter : (fault at number place : ℕ) → ℕ
+placeAfter x q n p = pick (eqb n 0) q (pick (eqb x 0) p q)
+
+-- the ownership check's answer, of what ends at a place and reads, by the first fault
+unfoldable pub toldBy : (next fault at : ℕ) → Read
+toldBy n x q = pick (eqb x 0) (Next n) (Fault x q)
+
+-- what is noted, from a first fault `x` at `q` to `x′` at `q′`, where a part of the file is gone over that reads and ends at `n`: the answer to
+-- it, and its calls if nothing is wrong; or the fault that was found before
+pub record Told (Answers : Read → Type 0) (Calls : Type 0) (n x q x′ q′ : ℕ) : Type 0 where
+  pub first : x ≡ 0 → Answers (toldBy n x′ q′)
+  pub kept : (x ≡ 0 → ⊥) → (x′ ≡ x) × (q′ ≡ q)
+  pub calls : x′ ≡ 0 → Calls
+
+-- a term from a place on: how it reads, and, if it does, what is noted of it
+pub record Passed (f d : List ℕ) (at result : ℕ) (slots : List Slot) (p : Path) (w x q w′ x′ q′ : ℕ) (r : Read) : Type 0 where
+  pub from : From f (at + 1) r
+  pub reads : ReadsTerm f d at p r
+  pub told : (n : ℕ) → r ≡ Next n → Told (Judged f d at result slots (p .slots)) (Noted f d at result (p .slots) w w′) n x q x′ q′
+
+-- two terms, one after the other
+pub data PassedTwo (f d : List ℕ) (at result : ℕ) (slots : List Slot) (p : Path) (w x q w′ x′ q′ : ℕ) : Read → Type 0 where
+  one : {k s : ℕ} → Passed f d at result slots p w x q w′ x′ q′ (Fault k s) → PassedTwo f d at result slots p w x q w′ x′ q′ (Fault k s)
+  both : {b u y z : ℕ} {r : Read} → Passed f d at result slots p w x q u y z (Next b) → Passed f d b result slots p u y z w′ x′ q′ r
+      → PassedTwo f d at result slots p w x q w′ x′ q′ r
+
+pub record PassedAll (f d : List ℕ) (at count credit result : ℕ) (slots : List Slot) (p : Path) (w x q w′ x′ q′ : ℕ) (r : Read) : Type 0 where
+  pub from : From f at r
+  pub reads : ReadsBranches f d at count credit p r
+  pub told : (n : ℕ) → r ≡ Next n
+      → Told (JudgedAll f d at count credit 0 result slots (p .slots)) (NotedAll f d at count credit result (p .slots) w w′) n x q x′ q′
 
 -- BD, and the body of function j behind it
-pub record PassedBody (f d : List ℕ) (at j w w′ : ℕ) (r : Checked) : Type 0 where
-  pub next : (n : ℕ) → r ≡ Next n → (at + 3 ≤ n) × (n ≤ length f) × ReadsBody f d at j (read′.Next n) × JudgedBody f d at j (Next n) × NotedBody f d at j w w′
-  pub unread : (x q : ℕ) → r ≡ Unread x q → (0 < x) × (q ≤ length f) × ReadsBody f d at j (read′.Fault x q)
-  pub fault : (x q : ℕ) → r ≡ Fault x q → JudgedBody f d at j (Fault x q)
+pub record PassedBody (f d : List ℕ) (at j w x q w′ x′ q′ : ℕ) (r : Read) : Type 0 where
+  pub from : From f (at + 3) r
+  pub reads : ReadsBody f d at j r
+  pub told : (n : ℕ) → r ≡ Next n → Told (JudgedBody f d at j) (NotedBody f d at j w w′) n x q x′ q′
 
--- the whole file: d is its table, c has its calls, and nothing is wrong; or it does not read; or, if it reads, its first fault is this one of the ownership check
-pub record Finished (f d c : List ℕ) (r : Checked) : Type 0 where
-  pub next : (n : ℕ) → r ≡ Next n → (file : File) × (read f ≡ ok file) × (d ≡ tableOf file) × (check-file file ≡ ok tt) × (c ≡ wordsOf file)
-  pub unread : (x q : ℕ) → r ≡ Unread x q → (0 < x) × (read f ≡ refuse x q) × (q ≤ 4096)
-  pub fault : (x q : ℕ) → r ≡ Fault x q → (file : File) → read f ≡ ok file → check-file file ≡ refuse x q
+-- the whole file: where it is accepted, d is its table and c has its calls; else number and place are those of the refusal
+pub record Finished (f d c : List ℕ) (r : Reached) : Type 0 where
+  pub fine : r .number ≡ 0 → (file : File) × (accepted f ≡ ok file) × (d ≡ tableOf file) × (c ≡ wordsOf file)
+  pub refused : (r .number ≡ 0 → ⊥) → (accepted f ≡ refuse (r .number) (r .at)) × (r .at ≤ 4096)

@@ -1,14 +1,12 @@
 -- What `judge` answers: the table of declarations of an accepted file, or the refusal. Assumes nothing.
 use Prim.Native.Nat.{ℕ}
 use mathlib.Core.List.{List}
-use mathlib.Core.Path.{_≡_}
 use lib.ListN.{replicate}
 use Rattle.meaning.specs.Syntax.{File}
 use Rattle.meaning.specs.Outcome.{Outcome, ok, refuse}
 use Rattle.meaning.specs.Verdict.{accepted}
 use Rattle.standing.specs.Table.{tableOf}
 use Rattle.checker.specs.declared.Judged.{Judged}
-use Rattle.checker.specs.Noting.{wordsOf}
 
 -- a refusal's table declares nothing
 abbrev pub refusal : (number place : ℕ) → Judged
@@ -23,8 +21,3 @@ judged (refuse n p) = refusal n p
 
 unfoldable pub judgedOf : (file : List ℕ) → Judged
 judgedOf file = judged (accepted file)
-
--- the answer, and of an accepted file the calls of each body in a word
-pub record Judging (f c : List ℕ) (r : Judged) : Type 0 where
-  pub answer : r ≡ judgedOf f
-  pub words : r .number ≡ 0 → (file : File) × (accepted f ≡ ok file) × (c ≡ wordsOf file)

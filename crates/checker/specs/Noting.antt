@@ -44,9 +44,9 @@ waitsIn w = upto 32 (λ g. getD (bitsOf 64 w) g false)
 unfoldable pub tailsIn : ℕ → List Bool
 tailsIn w = upto 32 (λ g. getD (bitsOf 64 w) (32 + g) false)
 
--- a row in which the members of a set are called in one way
-unfoldable pub putIn : List Bool → How → List How → List How
-putIn s h row = upto 32 (λ g. pick (getD s g false) h (getD row g Never))
+-- how a function is called that is waited for or else called last
+unfoldable pub wayOf : List Bool → ℕ → How
+wayOf ws g = pick (getD ws g false) Waits Tail
 
 -- a call that waits wins over a tail call
 unfoldable pub rowOf : (waits tails : List Bool) → List How

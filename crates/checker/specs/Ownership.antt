@@ -162,6 +162,12 @@ laidOf bytes scale at zero modes bound xs = xs
 laidOf bytes scale at (suc n) modes bound xs =
     laidOf bytes scale at n (modes + 1) (bound + 1) (set xs bound (bound-slot (kindAt (byteAt bytes modes * scale)) at))
 
+-- and behind them, where credit is 1, a credit of as many fields
+unfoldable pub boundOf : (bytes : List ℕ) → (scale at count modes bound : ℕ) → List Slot → (credit : ℕ) → List Slot
+boundOf bytes scale at count modes bound slots credit =
+    let out = laidOf bytes scale at count modes bound slots in
+    pick (eqb credit 1) (set out (bound + count) (bound-slot (kind.Credit count) at)) out
+
 -- how many credits a branch binds
 unfoldable pub creditsOf : (arity credit : ℕ) → ℕ
 creditsOf k credit = pick (eqb k 0) 0 credit
@@ -170,5 +176,8 @@ creditsOf k credit = pick (eqb k 0) 0 credit
 unfoldable pub branchOf : (bytes decl : List ℕ) → (constructor at credit : ℕ) → List Slot → (bound : ℕ) → List Slot
 branchOf bytes decl c at credit slots bound =
     let k = arityIn decl c in
-    let out = laidOf bytes (1 + credit) at k (fieldsIn decl c) bound slots in
-    pick (eqb (creditsOf k credit) 1) (set out (bound + k) (bound-slot (kind.Credit k) at)) out
+    boundOf bytes (1 + credit) at k (fieldsIn decl c) bound slots (creditsOf k credit)
+
+-- the fault of a constructor that has a second branch
+unfoldable pub repeatOf : (seen constructor : ℕ) → ℕ
+repeatOf seen c = pick (getD (bitsOf 64 seen) c false) 12 0

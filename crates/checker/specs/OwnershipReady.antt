@@ -20,15 +20,15 @@ use Rattle.standing.specs.Stands.{Stands, Each, count, arity}
 use Rattle.standing.specs.Table.{Sorts, Modes, sort-byte}
 use Rattle.checker.specs.declared.ownership.Taken.{Taken}
 use Rattle.checker.specs.declared.reading.Then.{Then}
-use Rattle.checker.specs.declared.bodies.Checked.{Checked}
-use Rattle.checker.specs.declared.bodies.Checked.the-variants.{Next, Fault}
+use Rattle.checker.specs.declared.reading.Read.{Read}
+use Rattle.checker.specs.declared.reading.Read.the-variants.{Next, Fault}
 use Rattle.checker.specs.OwnershipBits.{bitsOf}
 use Rattle.checker.specs.Noting.{noteCalls}
 use Rattle.checker.specs.Slots.{slotsOf, keptOf}
 use Rattle.checker.specs.Ownership.{takenOf, kindBy, thenOf}
 
 -- the answer of a check that ends at a place
-unfoldable pub spanned : ℕ → Outcome (Unit {0}) → Checked
+unfoldable pub spanned : ℕ → Outcome (Unit {0}) → Read
 spanned next (ok u) = Next next
 spanned next (refuse n p) = Fault n p
 
@@ -57,7 +57,7 @@ pub record Ready (bytes decl : List ℕ) (at result bound : ℕ) : Type 0 where
   pub stands : Stands file bytes bound term next
   pub few : bound ≤ 32
 
-pub record Judged (bytes decl : List ℕ) (at result : ℕ) (slots : List Slot) (bound : ℕ) (r : Checked) : Type 0 where
+pub record Judged (bytes decl : List ℕ) (at result : ℕ) (slots : List Slot) (bound : ℕ) (r : Read) : Type 0 where
   pub judged : (g : Ready bytes decl at result bound)
       → r ≡ spanned (g .next) (check (g .file .constructors) (g .file .functions) (g .sort) (g .term) (slotsOf bound slots))
 
@@ -100,7 +100,7 @@ pub record ReadyAll (bytes decl : List ℕ) (at left credit result bound : ℕ) 
 abbrev pub Seen : List ℕ → ℕ → Type 0
 Seen list seen = (c : ℕ) → member c list ≡ getD (bitsOf 64 seen) c false
 
-pub record JudgedAll (bytes decl : List ℕ) (at left credit seen result : ℕ) (slots : List Slot) (bound : ℕ) (r : Checked) : Type 0 where
+pub record JudgedAll (bytes decl : List ℕ) (at left credit seen result : ℕ) (slots : List Slot) (bound : ℕ) (r : Read) : Type 0 where
   pub judged : (g : ReadyAll bytes decl at left credit result bound) (list : List ℕ) → Seen list seen
       → r ≡ spanned (g .next) (check-branches (g .file .constructors) (g .file .functions) (g .sort) (g .branches) (boundBy credit) list (slotsOf bound slots))
 
@@ -117,7 +117,7 @@ pub record ReadyBody (bytes decl : List ℕ) (at f : ℕ) : Type 0 where
   pub here : place-of term ≡ at + 2
   pub stands : Stands file bytes (length (function-of file f .parameters)) term next
 
-pub record JudgedBody (bytes decl : List ℕ) (at f : ℕ) (r : Checked) : Type 0 where
+pub record JudgedBody (bytes decl : List ℕ) (at f : ℕ) (r : Read) : Type 0 where
   pub judged : (g : ReadyBody bytes decl at f)
       → r ≡ spanned (g .next) (check (g .file .constructors) (g .file .functions) (function-of (g .file) f .result) (g .term) (tree.bind [] (map tree.kind-of (function-of (g .file) f .parameters))))
 

@@ -1,4 +1,4 @@
-// Bodies, read and checked in one pass, which notes their calls too. A fault of reading is told from one of the ownership check, since a
+// Bodies, read and checked in one pass, which notes their calls too. Behind a fault of the ownership check the rest is still read, since a
 // file that does not read is refused for that, wherever its other faults stand.
 use crate::ownership::bind_all;
 use crate::ownership::bound_kind;
@@ -9,16 +9,17 @@ use crate::ownership::head;
 use crate::ownership::mark;
 use crate::ownership::modes;
 use crate::ownership::params;
+use crate::ownership::repeats;
 use crate::ownership::result_of;
 use crate::ownership::second_place;
 use crate::ownership::seeing;
-use crate::ownership::sees;
 use crate::ownership::slot_index;
 use crate::ownership::take_many;
 use crate::ownership::take_named;
 use crate::ownership::take_pair;
 use crate::ownership::takes_many;
 use crate::reading::Path;
+use crate::reading::Reached;
 use crate::reading::Read;
 use crate::reading::Then;
 use crate::reading::expect_mark;
@@ -46,14 +47,7 @@ ghost use lib.ListN.{length, replicate};
 ghost use Rattle.checker.specs.ReadingBytes.{path, knownCount};
 ghost use Rattle.checker.specs.Opening.{Bodied};
 ghost use Rattle.checker.specs.Noting.{noteAt};
-ghost use Rattle.checker.specs.Bodies.{Passable, sumSize, plainSize, plainStands, Plainly, Passed, PassedAll, PassedBody, Finished};
-
-// Where a term that was read and checked ends; or, of reading or else of the ownership check, the refusal's number and place.
-pub enum Checked {
-    Next(usize),
-    Unread(u32, usize),
-    Fault(u32, usize),
-}
+ghost use Rattle.checker.specs.Bodies.{Passable, sumSize, plainSize, plainStands, Plainly, faultAfter, placeAfter, Passed, PassedTwo, PassedAll, PassedBody, Finished};
 
 // Where a row of plain nodes ends, and the slots and the path there.
 pub struct Plain {
@@ -163,7 +157,20 @@ fn note(file: &[u8], at: usize, m: usize, calls: u64) -> u64
     }
 }
 
-// The term at a place: behind its plain nodes, one node, and the terms that follow it; its calls are noted.
+// Notes a fault of the ownership check, if its number is not 0 and it is the first.
+fn note_fault(fault: &mut u32, fault_at: &mut usize, number: u32, place: usize)
+    ensures { λ _. ⌜ (now (fault .exit) ≡ faultAfter (now (fault .entry)) number) × (now («fault_at» .exit) ≡ placeAfter (now (fault .entry)) (now («fault_at» .entry)) number place) ⌝ }
+{
+    if number != 0 {
+        if *fault == 0 {
+            *fault = number;
+            *fault_at = place;
+        }
+    }
+}
+
+// The term at a place: behind its plain nodes, one node, and the terms that follow it. Its calls are noted, and the number and the place of the
+// first fault of the ownership check.
 fn check_term(
     file: &[u8],
     decl: &[u32; 128],
@@ -172,9 +179,11 @@ fn check_term(
     slots: [Slot; 32],
     p: Path,
     calls: &mut u64,
-) -> Checked
+    fault: &mut u32,
+    fault_at: &mut usize,
+) -> Read
     requires { ⌜ Passable (now file) (now decl) start p ⌝ }
-    ensures { λ r. ⌜ Passed (now (file .entry)) (now (decl .entry)) start result slots p (now (calls .entry)) (now (calls .exit)) r ⌝ }
+    ensures { λ r. ⌜ Passed (now (file .entry)) (now (decl .entry)) start result slots p (now (calls .entry)) (now (fault .entry)) (now («fault_at» .entry)) (now (calls .exit)) (now (fault .exit)) (now («fault_at» .exit)) r ⌝ }
 {
     let mut inner = slots;
     let mut at = start;
@@ -204,7 +213,7 @@ fn check_term(
     };
     match then {
         Then::Fault(number, place) => {
-            return Checked::Unread(number, place);
+            return Read::Fault(number, place);
         }
         _ => {}
     }
@@ -228,9 +237,7 @@ fn check_term(
         t = take_many(file, decl, at, m, result, inner, bound);
         *calls = note(file, at, m, *calls);
     }
-    if t.number != 0 {
-        return Checked::Fault(t.number, t.place);
-    }
+    note_fault(fault, fault_at, t.number, t.place);
     let mut todo = t.spent;
     while todo != 0 {
         let k = lowest(todo);
@@ -251,17 +258,68 @@ fn check_term(
         };
     }
     match then {
-        Then::Leaf(next) => Checked::Next(next),
-        Then::One(next) => check_term(file, decl, next, result, inner, path, calls),
-        Then::Two(next) => match check_term(file, decl, next, result, inner, path, calls) {
-            Checked::Next(other) => check_term(file, decl, other, result, inner, path, calls),
-            Checked::Unread(number, place) => Checked::Unread(number, place),
-            Checked::Fault(number, place) => Checked::Fault(number, place),
-        },
+        Then::Leaf(next) => Read::Next(next),
+        Then::One(next) => check_term(
+            file,
+            decl,
+            next,
+            result,
+            inner,
+            path,
+            calls,
+            fault,
+            fault_at,
+        ),
+        Then::Two(next) => check_two(
+            file,
+            decl,
+            next,
+            result,
+            inner,
+            path,
+            calls,
+            fault,
+            fault_at,
+        ),
         Then::Many(next, count, credit) => {
-            check_branches(file, decl, next, count, credit, result, inner, path, calls)
+            check_branches(
+                file,
+                decl,
+                next,
+                count,
+                credit,
+                result,
+                inner,
+                path,
+                calls,
+                fault,
+                fault_at,
+            )
         }
-        Then::Fault(number, place) => Checked::Unread(number, place),
+        Then::Fault(number, place) => Read::Fault(number, place),
+    }
+}
+
+// The two terms of an IF, one after the other, each from the same slots.
+fn check_two(
+    file: &[u8],
+    decl: &[u32; 128],
+    start: usize,
+    result: usize,
+    slots: [Slot; 32],
+    p: Path,
+    calls: &mut u64,
+    fault: &mut u32,
+    fault_at: &mut usize,
+) -> Read
+    requires { ⌜ Passable (now file) (now decl) start p ⌝ }
+    ensures { λ r. ⌜ PassedTwo (now (file .entry)) (now (decl .entry)) start result slots p (now (calls .entry)) (now (fault .entry)) (now («fault_at» .entry)) (now (calls .exit)) (now (fault .exit)) (now («fault_at» .exit)) r ⌝ }
+{
+    match check_term(file, decl, start, result, slots, p, calls, fault, fault_at) {
+        Read::Next(second) => {
+            check_term(file, decl, second, result, slots, p, calls, fault, fault_at)
+        }
+        Read::Fault(number, place) => Read::Fault(number, place),
     }
 }
 
@@ -276,9 +334,11 @@ fn check_branches(
     slots: [Slot; 32],
     p: Path,
     calls: &mut u64,
-) -> Checked
+    fault: &mut u32,
+    fault_at: &mut usize,
+) -> Read
     requires { ⌜ Passable (now file) (now decl) start p × (credit ≤ 1) ⌝ }
-    ensures { λ r. ⌜ PassedAll (now (file .entry)) (now (decl .entry)) start count credit result slots p (now (calls .entry)) (now (calls .exit)) r ⌝ }
+    ensures { λ r. ⌜ PassedAll (now (file .entry)) (now (decl .entry)) start count credit result slots p (now (calls .entry)) (now (fault .entry)) (now («fault_at» .entry)) (now (calls .exit)) (now (fault .exit)) (now («fault_at» .exit)) r ⌝ }
 {
     let mut at = start;
     let mut left = count;
@@ -286,48 +346,61 @@ fn check_branches(
     while left != 0 {
         match read_branch(file, decl, at, credit, p.slots) {
             Read::Fault(number, place) => {
-                return Checked::Unread(number, place);
+                return Read::Fault(number, place);
             }
             Read::Next(more) => {
                 let c = byte(file, at + 2);
-                if sees(seen, c) {
-                    return Checked::Fault(12, at + 2);
-                }
+                note_fault(fault, fault_at, repeats(seen, c), at + 2);
                 let inner = branch_slots(file, decl, c, at, credit, slots, p.slots);
                 let path = Path {
                     slots: more,
                     nodes: p.nodes,
                 };
-                match check_term(file, decl, at + 3, result, inner, path, calls) {
-                    Checked::Next(next) => {
+                match check_term(
+                    file,
+                    decl,
+                    at + 3,
+                    result,
+                    inner,
+                    path,
+                    calls,
+                    fault,
+                    fault_at,
+                ) {
+                    Read::Next(next) => {
                         seen = seeing(seen, c);
                         at = next;
                         left -= 1;
                     }
-                    Checked::Unread(number, place) => {
-                        return Checked::Unread(number, place);
-                    }
-                    Checked::Fault(number, place) => {
-                        return Checked::Fault(number, place);
+                    Read::Fault(number, place) => {
+                        return Read::Fault(number, place);
                     }
                 }
             }
         }
     }
-    Checked::Next(at)
+    Read::Next(at)
 }
 
-// BD and the body of a function, from its parameters; its calls are noted.
-fn check_body(file: &[u8], decl: &[u32; 128], at: usize, f: usize, calls: &mut u64) -> Checked
+// BD and the body of a function, from its parameters; its calls are noted, and the first fault.
+fn check_body(
+    file: &[u8],
+    decl: &[u32; 128],
+    at: usize,
+    f: usize,
+    calls: &mut u64,
+    fault: &mut u32,
+    fault_at: &mut usize,
+) -> Read
     requires { ⌜ Passable (now file) (now decl) at (path 0 0) × (f < 32) × (knownCount (now decl) f ≤ 8) ⌝ }
-    ensures { λ r. ⌜ PassedBody (now (file .entry)) (now (decl .entry)) at f (now (calls .entry)) (now (calls .exit)) r ⌝ }
+    ensures { λ r. ⌜ PassedBody (now (file .entry)) (now (decl .entry)) at f (now (calls .entry)) (now (fault .entry)) (now («fault_at» .entry)) (now (calls .exit)) (now (fault .exit)) (now («fault_at» .exit)) r ⌝ }
 {
     match expect_mark(file, at, BD) {
-        Read::Fault(number, place) => Checked::Unread(number, place),
+        Read::Fault(number, place) => Read::Fault(number, place),
         Read::Next(start) => {
             let n = params(decl, f);
             let fresh = fresh_slots();
-            let slots = bind_all(file, modes(decl, f), 1, n, head(decl, f), fresh, 0);
+            let slots = bind_all(file, modes(decl, f), 1, n, head(decl, f), fresh, 0, 0);
             let result = result_of(file, decl, f);
             check_term(
                 file,
@@ -337,6 +410,8 @@ fn check_body(file: &[u8], decl: &[u32; 128], at: usize, f: usize, calls: &mut u
                 slots,
                 Path { slots: n, nodes: 0 },
                 calls,
+                fault,
+                fault_at,
             )
         }
     }
@@ -349,46 +424,62 @@ fn check_bodies(
     calls: &mut [u64; 32],
     start: usize,
     count: usize,
-) -> Checked
+) -> Reached
     requires { ⌜ (length (now file) ≤ 4096) × Bodied (now file) (now decl) count 0 start × (now calls ≡ replicate 32 0) ⌝ }
     ensures { λ r. ⌜ Finished (now (file .entry)) (now (decl .exit)) (now (calls .exit)) r ⌝ }
 {
     let mut f: usize = 0;
     let mut at: usize = start;
+    let mut fault: u32 = 0;
+    let mut fault_at: usize = 0;
     while f < count {
         let mut called: u64 = 0;
-        match check_body(file, decl, at, f, &mut called) {
-            Checked::Next(next) => {
+        match check_body(file, decl, at, f, &mut called, &mut fault, &mut fault_at) {
+            Read::Next(next) => {
                 decl[96 + f] = (at + 2) as u32;
                 calls[f] = called;
                 f += 1;
                 at = next;
             }
-            Checked::Unread(number, place) => {
-                return Checked::Unread(number, place);
-            }
-            Checked::Fault(number, place) => {
-                return Checked::Fault(number, place);
+            Read::Fault(number, place) => {
+                return Reached {
+                    count,
+                    at: place,
+                    number,
+                };
             }
         }
     }
     match read_end(file, at) {
-        Read::Fault(number, place) => Checked::Unread(number, place),
-        Read::Next(end) => Checked::Next(end),
+        Read::Fault(number, place) => Reached {
+            count,
+            at: place,
+            number,
+        },
+        Read::Next(end) => Reached {
+            count,
+            at: fault_at,
+            number: fault,
+        },
     }
 }
 
-// The whole file, with what it declares in the table and the calls of each body in a word.
-pub(crate) fn check_file(file: &[u8], decl: &mut [u32; 128], calls: &mut [u64; 32]) -> Checked
+// The whole file, with what it declares in the table and the calls of each body in a word: number 0 where nothing is wrong, else the answer 1
+// to 12 that refuses the file, and at its place.
+pub(crate) fn check_file(file: &[u8], decl: &mut [u32; 128], calls: &mut [u64; 32]) -> Reached
     requires { ⌜ (now decl ≡ replicate 128 255) × (now calls ≡ replicate 32 0) ⌝ }
     ensures { λ r. ⌜ Finished (now (file .entry)) (now (decl .exit)) (now (calls .exit)) r ⌝ }
 {
     if BYTES < file.len() {
-        return Checked::Unread(1, 0);
+        return Reached {
+            count: 0,
+            at: 0,
+            number: 1,
+        };
     }
     let header = read_header(file, decl);
     if header.number != 0 {
-        return Checked::Unread(header.number, header.at);
+        return header;
     }
     check_bodies(file, decl, calls, header.at, header.count)
 }

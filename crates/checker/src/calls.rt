@@ -12,7 +12,7 @@ ghost use Rattle.meaning.specs.Calls.{judge, IsReached};
 ghost use Rattle.meaning.specs.Answers.{told};
 ghost use Rattle.checker.specs.OwnershipBits.{bitsOf};
 ghost use Rattle.checker.specs.Bits.{member, closure, onward, Settles};
-ghost use Rattle.checker.specs.Noting.{waitsIn, tailsIn, putIn, rowOf, squareOf, goes, Led, Called, Tells};
+ghost use Rattle.checker.specs.Noting.{waitsIn, tailsIn, wayOf, rowOf, squareOf, goes, Led, Called, Tells};
 
 // ---- sets of functions, as bits
 
@@ -76,32 +76,34 @@ fn tails_of(calls: u64) -> u32
     (calls / 4294967296) as u32
 }
 
-// A row with one way to call each function of a set.
-fn put(row: [How; 32], set: u32, how: How) -> [How; 32]
-    ensures { λ r. ⌜ r ≡ putIn (bitsOf 32 set) how row ⌝ }
+// How a function is called that is waited for or else called last.
+fn way(waits: u32, i: u32) -> How
+    requires { ⌜ i < 32 ⌝ }
+    ensures { λ r. ⌜ r ≡ wayOf (bitsOf 32 waits) i ⌝ }
 {
-    let mut out = row;
-    let mut left = set;
-    let mut k: u32 = 0;
-    while k < 32 {
-        let i = lowest(left);
-        if 32 <= i {
-            return out;
-        }
-        out[i as usize] = how;
-        left = without_lowest(left);
-        k += 1;
+    if (waits >> i) % 2 == 1 {
+        return How::Waits;
     }
-    out
+    How::Tail
 }
 
 // A function's row: a call that waits wins over a tail call.
 fn row_of(waits: u32, tails: u32) -> [How; 32]
     ensures { λ r. ⌜ r ≡ rowOf (bitsOf 32 waits) (bitsOf 32 tails) ⌝ }
 {
-    let none = [How::Never; 32];
-    let tail = put(none, tails, How::Tail);
-    put(tail, waits, How::Waits)
+    let mut out = [How::Never; 32];
+    let mut left = either(waits, tails);
+    let mut k: u32 = 0;
+    while k < 32 {
+        let i = lowest(left);
+        if 32 <= i {
+            return out;
+        }
+        out[i as usize] = way(waits, i);
+        left = without_lowest(left);
+        k += 1;
+    }
+    out
 }
 
 // The square of the calls of all bodies, and which functions each one calls.

@@ -30,7 +30,7 @@ ghost use lib.Bits.{bitOr};
 ghost use Rattle.meaning.specs.Marks.{findMark};
 ghost use Rattle.standing.specs.Bytes.{byteAt, markAt, arityIn, fieldsIn, paramsIn, modesIn};
 ghost use Rattle.checker.specs.OwnershipBits.{bitsOf};
-ghost use Rattle.checker.specs.Ownership.{fine, fault, resultIn, takeKind, takeOf, barsOf, listOf, closeOf, makeOf, callOf, giveOf, tailOf, manyOf, takesMany, namedOf, twoOf, namesOf, firstPlace, secondPlace, kindBy, laidOf, creditsOf, branchOf};
+ghost use Rattle.checker.specs.Ownership.{fine, fault, resultIn, takeKind, takeOf, barsOf, listOf, closeOf, makeOf, callOf, giveOf, tailOf, manyOf, takesMany, namedOf, twoOf, namesOf, firstPlace, secondPlace, kindBy, boundOf, creditsOf, branchOf, repeatOf};
 
 // What a record takes: the slots that it spends, as bits; or, where the number is not 0, a fault and its place.
 pub struct Taken {
@@ -434,7 +434,8 @@ pub(crate) fn bound_kind(file: &[u8], decl: &[u32; 128], at: usize, m: usize) ->
     }
 }
 
-// Slots bound one after the other, for modes whose bytes stand from a place on (sorts of owned trees are scaled by 2).
+// Slots bound one after the other, for modes whose bytes stand from a place on (sorts of owned trees are scaled by 2), and behind them, where
+// credit is 1, a credit of as many fields.
 pub(crate) fn bind_all(
     file: &[u8],
     modes: usize,
@@ -443,9 +444,10 @@ pub(crate) fn bind_all(
     at: usize,
     slots: [Slot; 32],
     bound: usize,
+    credit: usize,
 ) -> [Slot; 32]
-    requires { ⌜ (bound + count ≤ 32) × (at ≤ 4096) × (modes < 16777216) × (scale ≤ 2) ⌝ }
-    ensures { λ r. ⌜ r ≡ laidOf (now (file .entry)) scale at count modes bound slots ⌝ }
+    requires { ⌜ (bound + count + credit ≤ 32) × (at ≤ 4096) × (modes < 16777216) × (scale ≤ 2) ⌝ }
+    ensures { λ r. ⌜ r ≡ boundOf (now (file .entry)) scale at count modes bound slots credit ⌝ }
 {
     let mut out = slots;
     let mut j: usize = 0;
@@ -456,6 +458,12 @@ pub(crate) fn bind_all(
             place: at as u16,
         };
         j += 1;
+    }
+    if credit == 1 {
+        out[bound + count] = Slot {
+            kind: Kind::Credit(count as u8),
+            place: at as u16,
+        };
     }
     out
 }
@@ -484,22 +492,35 @@ pub(crate) fn branch_slots(
     ensures { λ r. ⌜ r ≡ branchOf (now (file .entry)) (now (decl .entry)) c at credit slots bound ⌝ }
 {
     let k = arity(decl, c);
-    let mut out = bind_all(file, sorts(decl, c), 1 + credit, k, at, slots, bound);
-    if credits(k, credit) == 1 {
-        out[bound + k] = Slot {
-            kind: Kind::Credit(k as u8),
-            place: at as u16,
-        };
-    }
-    out
+    bind_all(
+        file,
+        sorts(decl, c),
+        1 + credit,
+        k,
+        at,
+        slots,
+        bound,
+        credits(k, credit),
+    )
 }
 
 // Is the constructor in the set?
-pub(crate) fn sees(seen: u64, c: usize) -> bool
+fn sees(seen: u64, c: usize) -> bool
     requires { ⌜ c < 64 ⌝ }
     ensures { λ r. ⌜ r ≡ getD (bitsOf 64 seen) c false ⌝ }
 {
     (seen >> (c as u64)) % 2 == 1
+}
+
+// The fault of a constructor that has a second branch: 12 where it is in the set, else 0.
+pub(crate) fn repeats(seen: u64, c: usize) -> u32
+    requires { ⌜ c < 64 ⌝ }
+    ensures { λ r. ⌜ r ≡ repeatOf seen c ⌝ }
+{
+    if sees(seen, c) {
+        return 12;
+    }
+    0
 }
 
 // The set with the constructor.

@@ -2,17 +2,14 @@
 ghost use mathlib.Core.Path.{_≡_};
 ghost use mathlib.Core.List.{[]};
 ghost use Prim.Native.Nat.{_+_, _*_, _%_, _<_, _≤_};
-ghost use lib.ListN.{length, replicate};
+ghost use lib.ListN.{length};
 ghost use Rattle.standing.specs.Bytes.{byteAt};
 ghost use Rattle.checker.specs.ReadingBytes.{bindsOf, room, knownArity, knownCount, atomField, makeFields, callFields, openFields, sumFields, fieldsAt, followsAt, limited, nodeAt, moreOf, branchFields, branchAt, numberAt, smallBytes, conAt, funAt, expectAt, finishAt, endAt};
-ghost use Rattle.checker.specs.Reads.{From, ReadsTerm, ReadsBranches};
-ghost use Rattle.checker.specs.Opening.{tableWith, ConsRead, Headed, FunsRead, HeaderRead, Bodied, ReadsBody, Ends};
+ghost use Rattle.checker.specs.Opening.{tableWith, ConsRead, Headed, FunsRead, HeaderRead, Ends};
 use meaning::AR;
 use meaning::AT;
-use meaning::BD;
 use meaning::BR;
 use meaning::BRANCHES;
-use meaning::BYTES;
 use meaning::CL;
 use meaning::CN;
 use meaning::CONSTRUCTORS;
@@ -336,67 +333,6 @@ pub(crate) fn read_branch(
     Read::Fault(3, at)
 }
 
-// A term: where it ends, or the fault.
-fn read_term(file: &[u8], decl: &[u32; 128], at: usize, p: Path) -> Read
-    requires { ⌜ (at ≤ length (now file)) × (p .slots ≤ 32) × (p .nodes ≤ 64) ⌝ }
-    ensures { λ r. ⌜ From (now (file .entry)) (at + 1) r × ReadsTerm (now (file .entry)) (now (decl .entry)) at p r ⌝ }
-{
-    let n = read_node(file, decl, at, p);
-    let follows = n.then;
-    let inner = n.path;
-    match follows {
-        Then::Leaf(next) => Read::Next(next),
-        Then::One(next) => read_term(file, decl, next, inner),
-        Then::Two(next) => match read_term(file, decl, next, inner) {
-            Read::Next(second) => read_term(file, decl, second, inner),
-            Read::Fault(number, place) => Read::Fault(number, place),
-        },
-        Then::Many(next, count, credit) => read_branches(file, decl, next, count, credit, inner),
-        Then::Fault(number, place) => Read::Fault(number, place),
-    }
-}
-
-// A list of so many branches: where it ends, or the fault.
-fn read_branches(
-    file: &[u8],
-    decl: &[u32; 128],
-    start: usize,
-    count: usize,
-    credit: usize,
-    p: Path,
-) -> Read
-    requires { ⌜ (start ≤ length (now file)) × (credit ≤ 1) × (p .slots ≤ 32) × (p .nodes ≤ 64) ⌝ }
-    ensures { λ r. ⌜ From (now (file .entry)) start r × ReadsBranches (now (file .entry)) (now (decl .entry)) start count credit p r ⌝ }
-{
-    let mut at = start;
-    let mut left = count;
-    while left != 0 {
-        match read_branch(file, decl, at, credit, p.slots) {
-            Read::Fault(number, place) => {
-                return Read::Fault(number, place);
-            }
-            Read::Next(slots) => match read_term(
-                file,
-                decl,
-                at + 3,
-                Path {
-                    slots: slots,
-                    nodes: p.nodes,
-                },
-            ) {
-                Read::Next(next) => {
-                    at = next;
-                    left -= 1;
-                }
-                Read::Fault(number, place) => {
-                    return Read::Fault(number, place);
-                }
-            },
-        }
-    }
-    Read::Next(at)
-}
-
 // The mark at a place, 16 where the file ends within it.
 fn mark_at(file: &[u8], at: usize) -> usize
     requires { ⌜ at ≤ length (now file) ⌝ }
@@ -586,57 +522,6 @@ fn read_funs(file: &[u8], decl: &mut [u32; 128], start: usize) -> Reached
     }
 }
 
-// BD and the body of a function: where its term ends, or the fault.
-fn read_body(file: &[u8], decl: &[u32; 128], at: usize, f: usize) -> Read
-    requires { ⌜ (at ≤ length (now file)) × (knownCount (now decl) f ≤ 8) ⌝ }
-    ensures { λ r. ⌜ From (now (file .entry)) (at + 3) r × ReadsBody (now (file .entry)) (now (decl .entry)) at f r ⌝ }
-{
-    match expect_mark(file, at, BD) {
-        Read::Fault(number, place) => Read::Fault(number, place),
-        Read::Next(start) => {
-            let n = params(decl, f);
-            read_term(file, decl, start, Path { slots: n, nodes: 0 })
-        }
-    }
-}
-
-// The bodies of so many functions, each one's place into the table, and the end of the file.
-fn read_bodies(file: &[u8], decl: &mut [u32; 128], start: usize, count: usize) -> Reached
-    requires { ⌜ (length (now file) ≤ 4096) × Bodied (now file) (now decl) count 0 start ⌝ }
-    ensures { λ r. ⌜ Ends (now (file .entry)) (now (decl .exit)) (r .count) (r .at) (r .number) ⌝ }
-{
-    let mut f: usize = 0;
-    let mut at: usize = start;
-    while f < count {
-        match read_body(file, decl, at, f) {
-            Read::Fault(number, place) => {
-                return Reached {
-                    count: count,
-                    at: place,
-                    number: number,
-                };
-            }
-            Read::Next(next) => {
-                decl[96 + f] = (at + 2) as u32;
-                f += 1;
-                at = next;
-            }
-        }
-    }
-    match read_end(file, at) {
-        Read::Fault(number, place) => Reached {
-            count: count,
-            at: place,
-            number: number,
-        },
-        Read::Next(end) => Reached {
-            count: count,
-            at: end,
-            number: 0,
-        },
-    }
-}
-
 // A file without a function, behind its constructors: a mark is missing or not allowed here.
 fn no_function(file: &[u8], decl: &[u32; 128], at: usize) -> Reached
     requires { ⌜ (length (now file) ≤ 4096) × Headed (now file) (now decl) 0 at × (numberAt (now file) at ≡ 0 → ⊥) × (numberAt (now file) at ≡ 1 → ⊥) ⌝ }
@@ -673,33 +558,4 @@ pub(crate) fn read_header(file: &[u8], decl: &mut [u32; 128]) -> Reached
         return no_function(file, decl, funs.at);
     }
     funs
-}
-
-// The records of a file, with what they declare in the table.
-fn read_records(file: &[u8], decl: &mut [u32; 128]) -> Reached
-    requires { ⌜ (length (now file) ≤ 4096) × (now decl ≡ tableWith [] [] []) ⌝ }
-    ensures { λ r. ⌜ Ends (now (file .entry)) (now (decl .exit)) (r .count) (r .at) (r .number) ⌝ }
-{
-    let header = read_header(file, decl);
-    if header.number != 0 {
-        return header;
-    }
-    read_bodies(file, decl, header.at, header.count)
-}
-
-// The whole file, with what it declares in a table of 128 words and the count of its functions: word c < 64 is a constructor's arity, word
-// 64 + f a function's count of parameters, each with 256 times the place of the first field (255: not declared), word 96 + f the place of
-// its body's term. Or number is the answer 1 to 6 that refuses the file, and at its place.
-pub(crate) fn read_file(file: &[u8], decl: &mut [u32; 128]) -> Reached
-    requires { ⌜ now decl ≡ replicate 128 255 ⌝ }
-    ensures { λ r. ⌜ Ends (now (file .entry)) (now (decl .exit)) (r .count) (r .at) (r .number) ⌝ }
-{
-    if BYTES < file.len() {
-        return Reached {
-            count: 0,
-            at: 0,
-            number: 1,
-        };
-    }
-    read_records(file, decl)
 }

@@ -18,30 +18,31 @@ use Rattle.meaning.specs.Reading.{read}
 use Rattle.meaning.specs.Ownership.{check, check-bodies, check-file, no-function}
 use Rattle.meaning.specs.Ownership as tree
 use Rattle.meaning.specs.Calls.{calls}
+use Rattle.meaning.specs.Verdict.{accepted}
 use Rattle.standing.specs.Bytes.{byteAt, paramsIn, modesIn}
 use Rattle.standing.specs.Stands.{Stands}
 use Rattle.standing.specs.Table.{con-words, con-end, fun-words, filled, tableOf, sort-byte, Sorts, Modes, Declared}
 use Rattle.standing.proofs.Declaring.{read-declared}
-use Rattle.checker.specs.declared.reading.Read.the-variants as read′
+use Rattle.standing.proofs.Faults.{check-file-inside}
+use Rattle.checker.specs.declared.reading.Read.{Read}
+use Rattle.checker.specs.declared.reading.Read.the-variants.{Next, Fault}
 use Rattle.checker.specs.declared.reading.Reached.{Reached}
-use Rattle.checker.specs.declared.bodies.Checked.{Checked}
-use Rattle.checker.specs.declared.bodies.Checked.the-variants.{Next, Unread, Fault}
 use Rattle.checker.specs.ReadingBytes.{path, knownCount, expectAt, endAt}
 use Rattle.checker.specs.Opening.{tableWith, HeaderRead, Bodied, ReadsBody, Ends}
 use Rattle.checker.specs.Bits as bits
 use Rattle.checker.specs.Noting.{noteCalls, wordsOf}
 use Rattle.checker.specs.Slots.{slotsOf, unbound}
-use Rattle.checker.specs.Ownership.{resultIn, laidOf}
+use Rattle.checker.specs.Ownership.{resultIn, laidOf, boundOf}
 use Rattle.checker.specs.OwnershipReady.{spanned, Known, Ready, Judged, Noted, ReadyBody, JudgedBody, NotedBody}
-use Rattle.checker.specs.Bodies.{Passable, Passed, PassedBody, Finished}
+use Rattle.checker.specs.Bodies.{Told, Passable, Passed, PassedBody, Finished}
 use Rattle.checker.proofs.reading.Tabled.{fill-wide, con-count, fun-count}
-use Rattle.checker.proofs.reading.Steps.{from-fault, expect-next}
-use Rattle.checker.proofs.reading.Body.{too-long, body-fails, body-here, expect-off, from-end, end-fails, end-reads, said}
+use Rattle.checker.proofs.reading.Steps.{from-le, from-next, from-fault, expect-next}
+use Rattle.checker.proofs.reading.Body.{too-long, body-fails, body-goes, body-here, expect-off, from-end, end-fails, end-reads, said}
 use Rattle.checker.proofs.ownership.Taking.{modes-scaled}
 use Rattle.checker.proofs.ownership.Branching.{laid-tells}
 use Rattle.checker.proofs.ownership.Cycle.{spanned-next, spanned-fault}
 use Rattle.checker.proofs.calls.Filling.{fill-start, fill-in}
-use Rattle.checker.proofs.bodies.Answers.{unread-is, fault-is, next-unread, next-fault, unread-fault}
+use Rattle.checker.proofs.bodies.Telling.{zero-or, told-next, told-fault, told-on}
 
 -- ---- one body
 module _ (f d : List ℕ) (at j : ℕ) where
@@ -74,11 +75,11 @@ module _ (f d : List ℕ) (at j : ℕ) where
       ∙ ap (λ n. slotsOf n (laidOf f 1 place (length ms) (modesIn d j) 0 (replicate 32 unbound))) (sym z)
       ∙ laid-tells f 1 place ms (modesIn d j) 0 (replicate 32 unbound) (modes-scaled f (modesIn d j) ms (g .declared .modes j (g .low))) l
 
-  body-judged : (place : ℕ) {r : Checked}
+  body-judged : (place : ℕ) (r : Read)
       → Judged f d (at + 2) (resultIn f d j) (laidOf f 1 place (paramsIn d j) (modesIn d j) 0 (replicate 32 unbound)) (paramsIn d j) r
       → JudgedBody f d at j r
   unfolding body-ready
-  body-judged place J = record {
+  body-judged place r J = record {
     judged = λ g.
         J .judged (body-ready g)
         ∙ ap (λ s. spanned (g .next) (check (g .file .constructors) (g .file .functions) (function-of (g .file) j .result) (g .term) s)) (start-slots place g);
@@ -89,17 +90,12 @@ module _ (f d : List ℕ) (at j : ℕ) where
   body-noted N = record { noted = λ g. N .noted (body-ready g) j }
 
   -- no BD stands here
-  pub body-unread : {w w′ : ℕ} (x q : ℕ) → at ≤ length f → expectAt f at 2 ≡ read′.Fault x q → PassedBody f d at j w w′ (Unread x q)
+  pub body-unread : {w x q w′ x′ q′ : ℕ} (k s : ℕ) → at ≤ length f → expectAt f at 2 ≡ Fault k s → PassedBody f d at j w x q w′ x′ q′ (Fault k s)
   unfolding ReadsBody
-  body-unread x q h e = record {
-    next = λ n z. absurd (next-unread (sym z));
-    unread = λ y p z.
-        let w = from-fault refl (expect-off f at 2 x q at h e) in (
-          subst (λ k. 0 < k) (unread-is z .0) (w .0),
-          subst (λ k. k ≤ length f) (unread-is z .1) (w .1),
-          inl (x, q, e, sym (λ i. read′.Fault (unread-is z .0 i) (unread-is z .1 i))),
-        );
-    fault = λ y p z. absurd (unread-fault z);
+  body-unread k s h e = record {
+    from = expect-off f at 2 k s (at + 3) h e;
+    reads = inl (k, s, e, refl);
+    told = λ n z. let y : _≡_ {A = ℕ} 0 1 = cc in absurd (omega arith);
   }
 
   module _ (low : j < 32) where
@@ -107,32 +103,29 @@ module _ (f d : List ℕ) (at j : ℕ) where
     unfolding knownCount pick
     known-is = rw (lt-ltb j 32 low)
 
-    body-passed : {w w′ : ℕ} (place : ℕ) (r : Checked) → expectAt f at 2 ≡ read′.Next (at + 2)
-        → Passed f d (at + 2) (resultIn f d j) (laidOf f 1 place (paramsIn d j) (modesIn d j) 0 (replicate 32 unbound)) (path (paramsIn d j) 0) w w′ r
-        → PassedBody f d at j w w′ r
+    body-passed : {w x q w′ x′ q′ : ℕ} (place : ℕ) (r : Read) → expectAt f at 2 ≡ Next (at + 2)
+        → Passed f d (at + 2) (resultIn f d j) (laidOf f 1 place (paramsIn d j) (modesIn d j) 0 (replicate 32 unbound)) (path (paramsIn d j) 0) w x q w′ x′ q′ r
+        → PassedBody f d at j w x q w′ x′ q′ r
     unfolding ReadsBody
     body-passed place r e P = record {
-      next = λ n z.
-          let x = P .next n z in
-          (omega (arith, x .0), x .1, inr (e, said f d (read′.Next n) refl (sym known-is) (x .2)), body-judged place (x .3), body-noted (x .4));
-      unread = λ x q z.
-          let y = P .unread x q z in
-          (y .0, y .1, inr (e, said f d (read′.Fault x q) refl (sym known-is) (y .2)));
-      fault = λ x q z. body-judged place (P .fault x q z);
+      from = from-le (omega arith) (P .from);
+      reads = inr (e, said f d r refl (sym known-is) (P .reads));
+      told = λ n z. told-on (body-judged place) body-noted (P .told n z);
     }
 
     -- the same with what the code has read and made
-    module _ (n start : ℕ) (en : n ≡ paramsIn d j) (es : expectAt f at 2 ≡ read′.Next start) where
+    module _ (n start : ℕ) (en : n ≡ paramsIn d j) (es : expectAt f at 2 ≡ Next start) where
       pub made-passable : length f ≤ 4096 → length d ≡ 128 → knownCount d j ≤ 8 → Passable f d start (path n 0)
       made-passable h w k =
           let x = expect-next f at 2 start es in
           record { small = h; wide = w; inside = x .1; slots = omega (arith, en, known-is); nodes = omega arith }
 
-      pub made-passed : {w w′ : ℕ} (place m res : ℕ) (fresh slots : List Slot) (r : Checked) → m ≡ modesIn d j → res ≡ resultIn f d j → fresh ≡ replicate 32 unbound
-          → slots ≡ laidOf f 1 place n m 0 fresh → Passed f d start res slots (path n 0) w w′ r → PassedBody f d at j w w′ r
+      pub made-passed : {w x q w′ x′ q′ : ℕ} (place m res : ℕ) (fresh slots : List Slot) (r : Read) → m ≡ modesIn d j → res ≡ resultIn f d j → fresh ≡ replicate 32 unbound
+          → slots ≡ boundOf f 1 place n m 0 fresh 0 → Passed f d start res slots (path n 0) w x q w′ x′ q′ r → PassedBody f d at j w x q w′ x′ q′ r
+      unfolding boundOf pick
       made-passed place m res fresh slots r em er ef el P =
-          let x = expect-next f at 2 start es in
-          body-passed place r (es ∙ ap read′.Next (x .0)) (rw (el, ef, em, en, er, x .0) at P)
+          let y = expect-next f at 2 start es in
+          body-passed place r (es ∙ ap Next (y .0)) (rw (el, ef, em, en, er, y .0) at P)
 
 -- ---- what a table says whose bodies are not all known
 known-of : {file : File} {f d t : List ℕ} → Declared file f t → length d ≡ 128 → ((i : ℕ) → i < 96 → getD t i 0 ≡ getD d i 0) → Known file f d
@@ -179,14 +172,15 @@ same-words cs fs ps qs h k i l =
 abbrev word-of : File → ℕ → ℕ
 word-of file i = noteCalls (calls (body-of file i) i) 0
 
--- what is left to check once so many bodies are found fine, and the words of their calls
-pub record Left (f c : List ℕ) (j : ℕ) : Type 0 where
-  pub left : (file : File) → read f ≡ ok file → check-file file ≡ check-bodies (file .constructors) (file .functions) (drop j (file .functions)) (drop j (file .bodies))
-  pub words : (file : File) → read f ≡ ok file → c ≡ bits.filled 0 j (word-of file)
+-- behind so many bodies: while no fault is found, what is left to check and the words of the calls; then what refuses the file, if it reads
+pub record Left (f c : List ℕ) (j x q : ℕ) : Type 0 where
+  pub left : x ≡ 0 → (file : File) → read f ≡ ok file → check-file file ≡ check-bodies (file .constructors) (file .functions) (drop j (file .functions)) (drop j (file .bodies))
+  pub words : x ≡ 0 → (file : File) → read f ≡ ok file → c ≡ bits.filled 0 j (word-of file)
+  pub found : (x ≡ 0 → ⊥) → (file : File) → read f ≡ ok file → check-file file ≡ refuse x q
 
-pub all-left : (f c : List ℕ) → c ≡ replicate 32 0 → Left f c 0
+pub all-left : (f c : List ℕ) → c ≡ replicate 32 0 → Left f c 0 0 0
 unfolding check-file
-all-left f c z = record { left = λ file e. refl; words = λ file e. z ∙ fill-start 0 (word-of file) }
+all-left f c z = record { left = λ _ file e. refl; words = λ _ file e. z ∙ fill-start 0 (word-of file); found = λ n file e. absurd (n refl) }
 
 module _ (f d : List ℕ) (count j at : ℕ) (C : Bodied f d count j at) (h : j < count) where
   in-file : (file : File) → read f ≡ ok file → j < length (file .functions)
@@ -217,97 +211,131 @@ module _ (f d : List ℕ) (count j at : ℕ) (C : Bodied f d count j at) (h : j 
   this-check file =
       check (file .constructors) (file .functions) (function-of file j .result) (body-of file j) (tree.bind [] (map tree.kind-of (function-of file j .parameters)))
 
-  next-body : {c : List ℕ} → Left f c j → (file : File) → read f ≡ ok file
+  next-body : {c : List ℕ} {x q : ℕ} → Left f c j x q → x ≡ 0 → (file : File) → read f ≡ ok file
       → check-file file ≡ then (this-check file) (λ _. check-bodies (file .constructors) (file .functions) (drop (suc j) (file .functions)) (drop (suc j) (file .bodies)))
   unfolding check-bodies this-check
-  next-body l file e =
+  next-body l z file e =
       let a = in-file file e in
       let b : j < length (file .bodies) = omega (arith, a, read-declared f file e .many) in
-      l .left file e ∙ rw (drop-cons (file .functions) j no-function a, drop-cons (file .bodies) j no-body b)
+      l .left z file e ∙ rw (drop-cons (file .functions) j no-function a, drop-cons (file .bodies) j no-body b)
 
-  pub fine-left : {c : List ℕ} {n w : ℕ} → Left f c j → JudgedBody f d at j (Next n) → NotedBody f d at j 0 w → Left f (set c j w) (j + 1)
+  body-fine : {c : List ℕ} {n x q : ℕ} → Left f c j x q → x ≡ 0 → JudgedBody f d at j (Next n) → (file : File) → read f ≡ ok file
+      → check-file file ≡ check-bodies (file .constructors) (file .functions) (drop (j + 1) (file .functions)) (drop (j + 1) (file .bodies))
   unfolding here-ready this-check
-  fine-left {c} {n} {w} l J N = record {
-    left = λ file e.
-        let y = spanned-next (read-declared f file e .ends j) n (this-check file) (J .judged (here-ready file e)) in
-        next-body l file e ∙ rw (y .0, add-one j);
-    words = λ file e.
-        ap (λ x. set x j w) (l .words file e)
-        ∙ fill-in 0 j (word-of file) w (omega (arith, in-file file e, read-declared f file e .functions)) (sym (N .noted (here-ready file e)));
-  }
+  body-fine {n = n} l z J file e =
+      let y = spanned-next (read-declared f file e .ends j) n (this-check file) (J .judged (here-ready file e)) in
+      next-body l z file e ∙ rw (y .0, add-one j)
 
-  pub body-stops : {c : List ℕ} {x q : ℕ} → Left f c j → JudgedBody f d at j (Fault x q) → (file : File) → read f ≡ ok file → check-file file ≡ refuse x q
+  body-words : {c : List ℕ} {x q w : ℕ} → Left f c j x q → x ≡ 0 → NotedBody f d at j 0 w → (file : File) → read f ≡ ok file → set c j w ≡ bits.filled 0 (j + 1) (word-of file)
+  unfolding here-ready
+  body-words {w = w} l z N file e =
+      ap (λ k. set k j w) (l .words z file e)
+      ∙ fill-in 0 j (word-of file) w (omega (arith, in-file file e, read-declared f file e .functions)) (sym (N .noted (here-ready file e)))
+
+  body-stops : {c : List ℕ} {x q k s : ℕ} → Left f c j x q → x ≡ 0 → JudgedBody f d at j (Fault k s) → (file : File) → read f ≡ ok file → check-file file ≡ refuse k s
   unfolding here-ready this-check
-  body-stops {c} {x} {q} l J file e =
-      let y = spanned-fault (read-declared f file e .ends j) x q (this-check file) (J .judged (here-ready file e)) in
-      next-body l file e ∙ rw y
+  body-stops {k = k} {s = s} l z J file e =
+      let y = spanned-fault (read-declared f file e .ends j) k s (this-check file) (J .judged (here-ready file e)) in
+      next-body l z file e ∙ rw y
 
-none-left : {c : List ℕ} (f : List ℕ) (j : ℕ) → Left f c j → (file : File) → read f ≡ ok file → length (file .functions) ≤ j → check-file file ≡ ok tt
+  -- what is left behind the body, by what was noted of it
+  module _ {c : List ℕ} {n w x q x′ q′ : ℕ} (l : Left f c j x q) (t : Told (JudgedBody f d at j) (NotedBody f d at j 0 w) n x q x′ q′) where
+    none-before : x′ ≡ 0 → x ≡ 0
+    none-before z = zero-or x (λ e. e) (λ k. absurd (k (sym (t .kept k .0) ∙ z)))
+
+    body-left : Left f (set c j w) (j + 1) x′ q′
+    body-left = record {
+      left = λ z. body-fine l (none-before z) (subst (JudgedBody f d at j) (told-next n x′ q′ z) (t .first (none-before z)));
+      words = λ z. body-words l (none-before z) (t .calls z);
+      found = λ k.
+          zero-or x
+          (λ z. body-stops l z (subst (JudgedBody f d at j) (told-fault n x′ q′ k) (t .first z)))
+          (λ m. let y = sym (t .kept m .0) in let v = sym (t .kept m .1) in λ file e. l .found m file e ∙ (λ i. refuse (y i) (v i)));
+    }
+
+  -- the code's step from body to body
+  module _ {w x q x′ q′ : ℕ} {r : Read} (P : PassedBody f d at j 0 x q w x′ q′ r) (n : ℕ) (e : r ≡ Next n) where
+    pub body-ends : (at + 3 ≤ n) × (n ≤ length f)
+    body-ends = from-next e (P .from)
+
+    pub body-next : Bodied f (set d (96 + j) (at + 2)) count (j + 1) n
+    body-next = body-goes f d count j at C h n (subst (ReadsBody f d at j) e (P .reads)) (body-ends .1)
+
+    pub left-next : {c : List ℕ} → Left f c j x q → Left f (set c j w) (j + 1) x′ q′
+    left-next l = body-left l (P .told n e)
+
+none-left : {c : List ℕ} {x q : ℕ} (f : List ℕ) (j : ℕ) → Left f c j x q → x ≡ 0 → (file : File) → read f ≡ ok file → length (file .functions) ≤ j → check-file file ≡ ok tt
 unfolding check-bodies
-none-left f j l file e h =
+none-left f j l z file e h =
     let b : length (file .bodies) ≤ j = omega (arith, h, read-declared f file e .many) in
-    l .left file e ∙ rw (drop-of-length-le (file .functions) h, drop-of-length-le (file .bodies) b)
+    l .left z file e ∙ rw (drop-of-length-le (file .functions) h, drop-of-length-le (file .bodies) b)
 
-all-noted : {c : List ℕ} (f : List ℕ) (j : ℕ) → Left f c j → (file : File) → read f ≡ ok file → length (file .functions) ≡ j → c ≡ wordsOf file
+all-noted : {c : List ℕ} {x q : ℕ} (f : List ℕ) (j : ℕ) → Left f c j x q → x ≡ 0 → (file : File) → read f ≡ ok file → length (file .functions) ≡ j → c ≡ wordsOf file
 unfolding wordsOf
-all-noted f j l file e h =
+all-noted f j l z file e h =
     let b : j ≡ length (file .bodies) = omega (arith, h, read-declared f file e .many) in
-    l .words file e ∙ ap (λ n. bits.filled 0 n (word-of file)) b
+    l .words z file e ∙ ap (λ n. bits.filled 0 n (word-of file)) b
 
 -- ---- the whole file
-finished-unread : (f d c : List ℕ) (x q : ℕ) → 0 < x → read f ≡ refuse x q → q ≤ 4096 → Finished f d c (Unread x q)
-finished-unread f d c x q a b h = record {
-  next = λ n z. absurd (next-unread (sym z));
-  unread = λ y p z. (
-    subst (λ k. 0 < k) (unread-is z .0) a,
-    b ∙ (λ i. refuse (unread-is z .0 i) (unread-is z .1 i)),
-    subst (λ k. k ≤ 4096) (unread-is z .1) h,
-  );
-  fault = λ y p z. absurd (unread-fault z);
+pub accepted-unread : (f : List ℕ) (n p : ℕ) → read f ≡ refuse n p → accepted f ≡ refuse n p
+unfolding accepted
+accepted-unread f n p e = rw (e, accepted)
+
+pub accepted-read : (f : List ℕ) (file : File) (n p : ℕ) → read f ≡ ok file → check-file file ≡ refuse n p → accepted f ≡ refuse n p
+unfolding accepted
+accepted-read f file n p e c = rw (e, c, accepted)
+
+pub accepted-fine : (f : List ℕ) (file : File) → read f ≡ ok file → check-file file ≡ ok tt → accepted f ≡ ok file
+unfolding accepted
+accepted-fine f file e c = rw (e, c, accepted)
+
+finished-unread : (f d c : List ℕ) (r : Reached) → 0 < r .number → read f ≡ refuse (r .number) (r .at) → r .at ≤ 4096 → Finished f d c r
+finished-unread f d c r a b h = record {
+  fine = λ z. absurd (omega (arith, a, z));
+  refused = λ _. (accepted-unread f (r .number) (r .at) b, h);
 }
 
-pub finished-fault : (f d c : List ℕ) (x q : ℕ) → ((file : File) → read f ≡ ok file → check-file file ≡ refuse x q) → Finished f d c (Fault x q)
-finished-fault f d c x q k = record {
-  next = λ n z. absurd (next-fault (sym z));
-  unread = λ y p z. absurd (unread-fault (sym z));
-  fault = λ y p z file e. k file e ∙ (λ i. refuse (fault-is z .0 i) (fault-is z .1 i));
-}
+pub finished-long : (f d c : List ℕ) (count : ℕ) → 4096 < length f → Finished f d c (record { count = count; at = 0; number = 1 })
+finished-long f d c count h = finished-unread f d c _ (omega arith) (too-long f h) (omega arith)
 
-finished-next : (f d c : List ℕ) (m : ℕ) (file : File) → read f ≡ ok file → d ≡ tableOf file → check-file file ≡ ok tt → c ≡ wordsOf file → Finished f d c (Next m)
-finished-next f d c m file a b h k = record {
-  next = λ n z. (file, a, b, h, k);
-  unread = λ x q z. absurd (next-unread z);
-  fault = λ x q z. absurd (next-fault z);
-}
-
-pub finished-long : (f d c : List ℕ) → 4096 < length f → Finished f d c (Unread 1 0)
-finished-long f d c h = finished-unread f d c 1 0 (omega arith) (too-long f h) (omega arith)
-
-pub header-stops : (f d d′ c : List ℕ) (r : Reached) → HeaderRead f d r → (r .number ≡ 0 → ⊥) → Finished f d′ c (Unread (r .number) (r .at))
+pub header-stops : (f d d′ c : List ℕ) (r : Reached) → HeaderRead f d r → (r .number ≡ 0 → ⊥) → Finished f d′ c r
 unfolding HeaderRead
-header-stops f d d′ c r H n = ⊎-elim (λ x. absurd (n (x .0))) (λ x. finished-unread f d′ c (r .number) (r .at) (x .0) (x .1) (x .2)) H
+header-stops f d d′ c r H n = ⊎-elim (λ x. absurd (n (x .0))) (λ x. finished-unread f d′ c r (x .0) (x .1) (x .2)) H
 
 -- a body does not read
-pub body-refused : (f d : List ℕ) (count j at : ℕ) → length f ≤ 4096 → (C : Bodied f d count j at) → j < count → (d′ c : List ℕ) {r : Checked} {u u′ : ℕ} (x q : ℕ) → r ≡ Unread x q
-    → PassedBody f d at j u u′ r → Finished f d′ c (Unread x q)
-body-refused f d count j at s C h d′ c x q e P =
-    let w = P .unread x q e in
-    finished-unread f d′ c x q (w .0) (body-fails f d count j at C h x q (w .2)) (omega (arith, w .1, s))
+pub body-refused : (f d : List ℕ) (count j at : ℕ) → length f ≤ 4096 → (C : Bodied f d count j at) → j < count → (d′ c : List ℕ) {r : Read} {w x q w′ x′ q′ : ℕ} (k s : ℕ)
+    → r ≡ Fault k s → PassedBody f d at j w x q w′ x′ q′ r → Finished f d′ c (record { count = count; at = s; number = k })
+body-refused f d count j at h C l d′ c k s e P =
+    let z = from-fault e (P .from) in
+    finished-unread f d′ c _ (z .0) (body-fails f d count j at C l k s (subst (ReadsBody f d at j) e (P .reads))) (omega (arith, z .1, h))
 
 -- the end of the file
-pub end-refused : (f d c : List ℕ) (count at : ℕ) → length f ≤ 4096 → Bodied f d count count at → (x q : ℕ) → endAt f at ≡ read′.Fault x q → Finished f d c (Unread x q)
+pub end-refused : (f d c : List ℕ) (count at : ℕ) → length f ≤ 4096 → Bodied f d count count at → (k s : ℕ) → endAt f at ≡ Fault k s
+    → Finished f d c (record { count = count; at = s; number = k })
 unfolding Ends
-end-refused f d c count at s C x q e =
+end-refused f d c count at h C k s e =
     let z = from-fault e (from-end f at (C .inside)) in
-    ⊎-elim (λ w. absurd (omega (arith, w .0, z .0))) (λ w. finished-unread f d c x q (w .0) (w .1) (w .2)) (end-fails f d count at s C x q e)
+    ⊎-elim (λ w. absurd (omega (arith, w .0, z .0))) (λ w. finished-unread f d c _ (w .0) (w .1) (w .2)) (end-fails f d count at h C k s e)
 
-pub end-finished : (f d c : List ℕ) (count at : ℕ) → length f ≤ 4096 → Bodied f d count count at → Left f c count → (n : ℕ) → endAt f at ≡ read′.Next n → Finished f d c (Next n)
+-- a file that reads, by the first fault
+read-finished : (f d c : List ℕ) (count x q : ℕ) (file : File) → read f ≡ ok file → d ≡ tableOf file → length (file .functions) ≡ count → Left f c count x q
+    → Finished f d c (record { count = count; at = q; number = x })
+read-finished f d c count x q file e t n l = record {
+  fine = λ z. (file, accepted-fine f file e (none-left f count l z file e (omega (arith, n))), t, all-noted f count l z file e n);
+  refused = λ k.
+      let D = read-declared f file e in
+      let y = l .found k file e in
+      (accepted-read f file x q e y, omega (arith, check-file-inside file f (tableOf file) D y, D .size));
+}
+
+pub end-finished : (f d c : List ℕ) (count at : ℕ) → length f ≤ 4096 → Bodied f d count count at → (x q : ℕ) → Left f c count x q → (n : ℕ) → endAt f at ≡ Next n
+    → Finished f d c (record { count = count; at = q; number = x })
 unfolding Ends
-end-finished f d c count at s C l n e =
+end-finished f d c count at h C x q l n e =
     ⊎-elim
-    (λ w. finished-next f d c n (w .1) (w .2) (w .3) (none-left f count l (w .1) (w .2) (omega (arith, w .4))) (all-noted f count l (w .1) (w .2) (w .4)))
+    (λ w. read-finished f d c count x q (w .1) (w .2) (w .3) (w .4) l)
     (λ w. absurd (omega (arith, w .0)))
-    (end-reads f d count at s C n e)
+    (end-reads f d count at h C n e)
 
-pub all-checked : {f c : List ℕ} {count j : ℕ} → j ≤ count → count ≤ j → Left f c j → Left f c count
-all-checked {f} {c} {count} {j} h l L = let e : j ≡ count = omega arith in subst (λ n. Left f c n) e L
+pub all-checked : {f c : List ℕ} {count j x q : ℕ} → j ≤ count → count ≤ j → Left f c j x q → Left f c count x q
+all-checked {f} {c} {count} {j} {x} {q} h l L = let e : j ≡ count = omega arith in subst (λ n. Left f c n x q) e L

@@ -16,7 +16,6 @@ use Rattle.meaning.specs.Marks.{findMark, rowAt}
 use Rattle.standing.specs.Bytes.{byteAt, markAt}
 use Rattle.checker.specs.declared.slots.Want.the-variants as want
 use Rattle.checker.specs.declared.ownership.Taken.{Taken}
-use Rattle.checker.specs.declared.bodies.Checked.{Checked}
 use Rattle.checker.specs.declared.reading.Path.{Path}
 use Rattle.checker.specs.declared.reading.Read.{Read}
 use Rattle.checker.specs.declared.reading.Then.the-variants as then
@@ -163,7 +162,7 @@ module _ (f : List ℕ) (at : ℕ) (p : Path) (a b : Kind) where
       follows = let q : at + 5 ≡ at + 2 + 3 + 0 = omega arith in ap then.One q;
     }
 
-    pub plain-judged : {size : ℕ} → Sized f at p a b size → (c : Checked)
+    pub plain-judged : {size : ℕ} → Sized f at p a b size → (c : Read)
         → Judged f d (at + size) result (set slots (p .slots) (bound-slot kind.Number at)) (p .slots + 1) c → Judged f d at result slots (p .slots) c
     plain-judged (number hs hk em) c j = one-judged (number-made em) refl j
     plain-judged (sum hs hk em eo et) c j = one-judged (sum-made em hs et) refl j

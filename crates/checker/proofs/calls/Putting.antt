@@ -1,55 +1,59 @@
--- A row in which the members of a set are called in one way, from the front on, and the row of two such sets. Assumes nothing.
-use Prim.Native.Nat.{ℕ, suc, _+_, _<_}
+-- A function's row, made from the front on of the functions that it waits for and those that it calls last. Assumes nothing.
+use Prim.Native.Nat.{ℕ, _+_, _<_}
 use mathlib.Core.Path.{_≡_, refl, sym, ap, _∙_}
-use mathlib.Core.List.{List, _∷_, _++_, append-nil}
+use mathlib.Core.List.{List, append-nil}
 use mathlib.Core.Bool.{Bool, true, false}
-use native.Mathlib.Omega.{arith}
-use native.Mathlib.Numerals.{add-one}
-use lib.ListN.{length, getD, set, drop, replicate, getD-replicate, drop-of-length-le}
-use lib.Seq.{drop-cons, set-at, append-snoc}
+use lib.ListN.{getD, set, replicate}
 use Rattle.meaning.specs.declared.How.{How}
 use Rattle.meaning.specs.declared.How.the-variants.{Never, Tail, Waits}
 use Rattle.meaning.specs.Choice.{pick}
-use Rattle.meaning.specs.Sets.{upto}
-use Rattle.theory.proofs.Bools.{upto-length, upto-at}
-use Rattle.checker.specs.Noting.{putIn, rowOf}
-use Rattle.checker.proofs.calls.Halves.{by-entries}
+use Rattle.meaning.specs.Sets.{upto, zip, or}
+use Rattle.theory.proofs.Bools.{zip-at}
+use Rattle.checker.specs.OwnershipBits.{bitsOf}
+use Rattle.checker.specs.Bits.{filled}
+use Rattle.checker.specs.Noting.{wayOf, rowOf}
+use Rattle.checker.proofs.calls.Digits.{bits-length}
+use Rattle.checker.proofs.calls.Filling.{fill-start, fill-in, fill-out}
 
-module _ (s : List Bool) (how : How) (row : List How) where
+-- what one of two sets has is called
+by-either : (a b : Bool) → pick a Waits (pick b Tail Never) ≡ pick (or a b) (pick a Waits Tail) Never
+unfolding pick
+by-either true b = refl
+by-either false true = refl
+by-either false false = refl
+
+-- those of x are waited for, those of y called last
+module _ (x y : ℕ) where
+  abbrev waits : List Bool
+  waits = bitsOf 32 x
+
+  abbrev tails : List Bool
+  tails = bitsOf 32 y
+
   abbrev at : ℕ → How
-  at g = pick (getD s g false) how (getD row g Never)
+  at g = pick (getD waits g false) Waits (pick (getD tails g false) Tail Never)
 
   -- the row with its first n entries made
-  unfoldable pub put-to : ℕ → List How
-  put-to n = upto n at ++ drop n row
+  abbrev pub row-to : ℕ → List How
+  row-to n = filled Never n at
 
-  pub put-none : row ≡ put-to 0
-  unfolding put-to upto
-  put-none = refl
+  pub row-start : replicate 32 Never ≡ row-to 0
+  row-start = fill-start Never at
 
-  put-next : (j : ℕ) → j < length row → put-to j ≡ upto j at ++ (getD row j Never ∷ drop (suc j) row)
-  unfolding put-to
-  put-next j l = ap (λ r. upto j at ++ r) (drop-cons row j Never l)
+  pub row-all : row-to 32 ≡ rowOf waits tails
+  unfolding filled rowOf
+  row-all = append-nil (upto 32 at)
 
-  pub put-same : (j : ℕ) → j < length row → getD s j false ≡ false → put-to (j + 1) ≡ put-to j
-  unfolding put-to upto pick
-  put-same j l e = rw (add-one j, e) (append-snoc (upto j at) (getD row j Never) (drop (suc j) row)) ∙ sym (put-next j l)
+  at-either : (j : ℕ) (b : Bool) → getD (zip or waits tails) j false ≡ b → at j ≡ pick b (wayOf waits j) Never
+  unfolding wayOf
+  at-either j b e =
+      by-either (getD waits j false) (getD tails j false)
+      ∙ ap (λ z. pick z (wayOf waits j) Never) (sym (zip-at or refl waits tails j (bits-length 32 x ∙ sym (bits-length 32 y))) ∙ e)
 
-  pub put-more : (j : ℕ) → j < length row → getD s j false ≡ true → set (put-to j) j how ≡ put-to (j + 1)
-  unfolding put-to upto pick
-  put-more j l e = ap (λ r. set r j how) (put-next j l) ∙ set-at (upto j at) (getD row j Never) (drop (suc j) row) how j (upto-length j at) ∙ sym (rw (add-one j, e) (append-snoc (upto j at) how (drop (suc j) row)))
+  pub row-same : (j : ℕ) → j < 32 → getD (zip or waits tails) j false ≡ false → row-to (j + 1) ≡ row-to j
+  unfolding pick
+  row-same j l e = sym (fill-out Never j at l (at-either j false e))
 
-  pub put-all : length row ≡ 32 → put-to 32 ≡ putIn s how row
-  unfolding put-to putIn
-  put-all l = ap (λ r. upto 32 at ++ r) (drop-of-length-le row {i = 32} (omega arith)) ∙ append-nil (upto 32 at)
-
--- tail calls first, and the calls that wait over them
-pub put-twice : (waits tails : List Bool) → putIn waits Waits (putIn tails Tail (replicate 32 Never)) ≡ rowOf waits tails
-unfolding putIn rowOf
-put-twice waits tails = by-entries Never (putIn waits Waits (putIn tails Tail (replicate 32 Never))) (λ g. pick (getD waits g false) Waits (pick (getD tails g false) Tail Never)) (upto-length 32 _) over
-  where
-    under : (g : ℕ) → g < 32 → getD (putIn tails Tail (replicate 32 Never)) g Never ≡ pick (getD tails g false) Tail Never
-    under g l = upto-at 32 (at tails Tail (replicate 32 Never)) g Never l ∙ ap (pick (getD tails g false) Tail) (getD-replicate 32 g Never Never l)
-
-    over : (g : ℕ) → g < 32 → getD (putIn waits Waits (putIn tails Tail (replicate 32 Never))) g Never ≡ pick (getD waits g false) Waits (pick (getD tails g false) Tail Never)
-    over g l = upto-at 32 (at waits Waits (putIn tails Tail (replicate 32 Never))) g Never l ∙ ap (pick (getD waits g false) Waits) (under g l)
+  pub row-more : (j : ℕ) → j < 32 → getD (zip or waits tails) j false ≡ true → set (row-to j) j (wayOf waits j) ≡ row-to (j + 1)
+  unfolding pick
+  row-more j l e = fill-in Never j at (wayOf waits j) l (at-either j true e)

@@ -2,25 +2,23 @@
 use borrow.Author.Needs.{needs}
 use Rattle.checker.proofs.check.Statement.{statement}
 use Rattle.checker.proofs.check.Tie as tie
-use Rattle.checker.proofs.Joining.{judged-refused, words-wide, words-told}
+use native.Mathlib.Omega.{arith}
+use Rattle.checker.proofs.Joining.{place-low, refused-told, words-wide, words-told}
 
-judge-and-note-requires : tie.Need-judge-and-note-requires
-judge-and-note-requires c κs = search needs
+check-file-requires : tie.Need-check-file-requires
+check-file-requires c κs = search needs
+
+cast-t8 : tie.Need-cast-t8
+cast-t8 c = omega (arith, place-low _ _ _ _ (c .before .before .before .check-file .ensures) (c .before .if1 .taken))
 
 returns : tie.Need-returns
-returns c = judged-refused _ (c .before .before .judge-and-note .ensures .answer) (c .if1 .taken)
+returns c = refused-told _ _ _ _ (c .before .before .before .check-file .ensures) (c .before .if1 .taken)
 
 shape-of-requires : tie.Need-shape-of-requires
-shape-of-requires c κs = words-wide _ _ (c .before .before .before .judge-and-note .ensures .words (c .before .if1 .left))
+shape-of-requires c κs = words-wide _ _ _ _ (c .before .before .before .check-file .ensures) (c .before .if1 .left)
 
 returns-2 : tie.Need-returns-2
-returns-2 c = words-told _ _ (c .before .before .before .before .judge-and-note .ensures .words (c .before .before .if1 .left)) (c .shape-of .ensures)
+returns-2 c = words-told _ _ _ _ (c .before .before .before .before .check-file .ensures) (c .before .before .if1 .left) (c .shape-of .ensures)
 
 pub check-spec : {M : Type 1} → statement M
-check-spec =
-    tie.close
-    (tie.spec
-    judge-and-note-requires
-    returns
-    shape-of-requires
-    returns-2)
+check-spec = tie.close (tie.spec check-file-requires cast-t8 returns shape-of-requires returns-2)

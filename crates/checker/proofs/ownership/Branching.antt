@@ -22,11 +22,11 @@ use Rattle.standing.specs.Bytes.{byteAt, arityIn, fieldsIn}
 use Rattle.standing.specs.Stands.{Stands, Each, count}
 use Rattle.standing.specs.Stands as stands
 use Rattle.standing.specs.Table.{Sorts, mode-byte}
-use Rattle.checker.specs.declared.bodies.Checked.{Checked}
-use Rattle.checker.specs.declared.bodies.Checked.the-variants.{Next, Fault}
+use Rattle.checker.specs.declared.reading.Read.{Read}
+use Rattle.checker.specs.declared.reading.Read.the-variants.{Next, Fault}
 use Rattle.checker.specs.OwnershipBits.{bitsOf}
 use Rattle.checker.specs.Slots.{slotOf, slotsOf, bound-slot, kindAt}
-use Rattle.checker.specs.Ownership.{laidOf, creditsOf, branchOf}
+use Rattle.checker.specs.Ownership.{laidOf, boundOf, creditsOf, branchOf}
 use Rattle.checker.specs.Noting.{noteCalls}
 use Rattle.checker.specs.OwnershipReady.{spanned, Ready, Judged, Noted, extraBy, boundBy, ReadyAll, Seen, JudgedAll, NotedAll}
 use Rattle.checker.proofs.ownership.Spending.{slots-more}
@@ -102,7 +102,7 @@ credits-are (x ∷ ss) (suc n) h =
 module _ (bytes decl : List ℕ) (at : ℕ) (slots : List Slot) (wide : length slots ≡ 32) (bound : ℕ) where
   branch-lent : (c : ℕ) (ss : List Sort) → arityIn decl c ≡ length ss → Sorts bytes (fieldsIn decl c) ss → bound + length ss ≤ 32
       → slotsOf (bound + arityIn decl c + creditsOf (arityIn decl c) 0) (branchOf bytes decl c at 0 slots bound) ≡ tree.bind (slotsOf bound slots) (tree.bound-by-LK ss)
-  unfolding branchOf pick
+  unfolding branchOf boundOf pick
   branch-lent c ss a s h =
       let z : creditsOf (length ss) 0 ≡ 0 = credits-are ss 0 (omega arith) in
       let n : bound + length ss + 0 ≡ bound + length (map mode-lent ss) = omega (arith, length-map ss mode-lent) in
@@ -124,7 +124,7 @@ module _ (bytes decl : List ℕ) (at : ℕ) (slots : List Slot) (wide : length s
 
   branch-owned : (c : ℕ) (ss : List Sort) → arityIn decl c ≡ length ss → Sorts bytes (fieldsIn decl c) ss → bound + (length ss + extraBy 1 ss) ≤ 32
       → slotsOf (bound + arityIn decl c + creditsOf (arityIn decl c) 1) (branchOf bytes decl c at 1 slots bound) ≡ tree.bind (slotsOf bound slots) (tree.bound-by-OP ss)
-  unfolding branchOf pick
+  unfolding branchOf boundOf pick
   branch-owned c [] a s h =
       let z : creditsOf 0 1 ≡ 0 = credits-are [] 1 (omega arith) in
       let n : bound + 0 + 0 ≡ bound + 0 = omega arith in
@@ -288,7 +288,7 @@ module _ {bytes decl : List ℕ} {at left credit seen result : ℕ} {slots : Lis
   unseen : (g : ReadyAll bytes decl at left credit result bound) (list : List ℕ) → Seen list seen → tree.member (byteAt bytes (at + 2)) list ≡ false
   unseen g list s = s (byteAt bytes (at + 2)) ∙ ap (λ z. getD (bitsOf 64 seen) z false) (sym (o .con)) ∙ o .new
 
-  module _ {r : Checked} (j : Judged bytes decl (at + 3) result inner (bound + k + x) r) where
+  module _ {r : Read} (j : Judged bytes decl (at + 3) result inner (bound + k + x) r) where
     abbrev slots-of : ReadyAll bytes decl at left credit result bound → List Slot
     slots-of g = branchOf bytes decl (byteAt bytes (at + 2)) at credit slots bound
 
@@ -328,7 +328,7 @@ module _ {bytes decl : List ℕ} {at left credit seen result : ℕ} {slots : Lis
       flag = g .flag;
     }
 
-    pub branch-judged : {n seen′ : ℕ} {s : Checked} → r ≡ Next n → seen′ ≡ bitOr seen (2 ^ c) → JudgedAll bytes decl n (left - 1) credit seen′ result slots bound s
+    pub branch-judged : {n seen′ : ℕ} {s : Read} → r ≡ Next n → seen′ ≡ bitOr seen (2 ^ c) → JudgedAll bytes decl n (left - 1) credit seen′ result slots bound s
         → JudgedAll bytes decl at left credit seen result slots bound s
     unfolding rest-ready
     branch-judged {n} {seen′} {s} e es i = record {

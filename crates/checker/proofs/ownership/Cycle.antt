@@ -15,12 +15,11 @@ use Rattle.meaning.specs.Outcome.{Outcome, ok, refuse, then}
 use Rattle.meaning.specs.Ownership.{check}
 use Rattle.meaning.specs.Calls.{calls, calls-branches}
 use Rattle.standing.specs.Bytes.{markAt}
-use Rattle.standing.specs.Stands.{count}
 use Rattle.checker.specs.declared.ownership.Taken.{Taken}
 use Rattle.checker.specs.declared.reading.Then.{Then}
 use Rattle.checker.specs.declared.reading.Then.the-variants.{Leaf, One, Two, Many}
-use Rattle.checker.specs.declared.bodies.Checked.{Checked}
-use Rattle.checker.specs.declared.bodies.Checked.the-variants.{Next, Fault}
+use Rattle.checker.specs.declared.reading.Read.{Read}
+use Rattle.checker.specs.declared.reading.Read.the-variants.{Next, Fault}
 use Rattle.checker.specs.Slots.{slotsOf}
 use Rattle.checker.specs.Ownership.{takenOf}
 use Rattle.checker.specs.Noting.{noteAt, noteCalls}
@@ -94,7 +93,7 @@ module _ {bytes decl : List ℕ} {at result : ℕ} {slots : List Slot} {bound m 
         few = room bytes decl at result slots (w .wide) bound g (w .mark) (w .count);
       }
 
-  pub one-judged : {n : ℕ} {r : Checked} → f ≡ One n → Judged bytes decl n result inner more r → Judged bytes decl at result slots bound r
+  pub one-judged : {n : ℕ} {r : Read} → f ≡ One n → Judged bytes decl n result inner more r → Judged bytes decl at result slots bound r
   unfolding one-ready
   one-judged {n} {r} e j = record {
     judged = λ g.
@@ -118,7 +117,7 @@ module _ {bytes decl : List ℕ} {at result : ℕ} {slots : List Slot} {bound m 
         few = room bytes decl at result slots (w .wide) bound g (w .mark) (w .count);
       }
 
-  pub two-stops : {n a b : ℕ} {r : Checked} → f ≡ Two n → Judged bytes decl n result inner more r → r ≡ Fault a b → Judged bytes decl at result slots bound (Fault a b)
+  pub two-stops : {n a b : ℕ} {r : Read} → f ≡ Two n → Judged bytes decl n result inner more r → r ≡ Fault a b → Judged bytes decl at result slots bound (Fault a b)
   unfolding two-ready spanned
   two-stops {n} {a} {b} {r} e j q = record {
     judged = λ g.
@@ -127,12 +126,12 @@ module _ {bytes decl : List ℕ} {at result : ℕ} {slots : List Slot} {bound m 
         sym (ap (spanned (g .next)) (v .8 ∙ ap (λ o. then o (λ _. check (g .file .constructors) (g .file .functions) (g .sort) (v .1) (slotsOf more inner))) x));
   }
 
-  two-told : {n k : ℕ} {r : Checked} → (e : f ≡ Two n) → Judged bytes decl n result inner more r → r ≡ Next k → (g : Ready bytes decl at result bound)
+  two-told : {n k : ℕ} {r : Read} → (e : f ≡ Two n) → Judged bytes decl n result inner more r → r ≡ Next k → (g : Ready bytes decl at result bound)
       → (check (g .file .constructors) (g .file .functions) (g .sort) (viewed (Two n) e g .0) (slotsOf more inner) ≡ ok tt) × (k ≡ viewed (Two n) e g .2)
   unfolding two-ready
   two-told {n} {k} {r} e j q g = spanned-next (viewed (Two n) e g .2) k (check (g .file .constructors) (g .file .functions) (g .sort) (viewed (Two n) e g .0) (slotsOf more inner)) (sym q ∙ j .judged (two-ready e g))
 
-  second-ready : {n k : ℕ} {r : Checked} → f ≡ Two n → Judged bytes decl n result inner more r → r ≡ Next k → Ready bytes decl at result bound
+  second-ready : {n k : ℕ} {r : Read} → f ≡ Two n → Judged bytes decl n result inner more r → r ≡ Next k → Ready bytes decl at result bound
       → Ready bytes decl k result more
   second-ready {n} {k} {r} e j q g =
       let v = viewed (Two n) e g in
@@ -148,7 +147,7 @@ module _ {bytes decl : List ℕ} {at result : ℕ} {slots : List Slot} {bound m 
         few = room bytes decl at result slots (w .wide) bound g (w .mark) (w .count);
       }
 
-  pub two-judged : {n k : ℕ} {r s : Checked} → f ≡ Two n → Judged bytes decl n result inner more r → r ≡ Next k → Judged bytes decl k result inner more s
+  pub two-judged : {n k : ℕ} {r s : Read} → f ≡ Two n → Judged bytes decl n result inner more r → r ≡ Next k → Judged bytes decl k result inner more s
       → Judged bytes decl at result slots bound s
   unfolding second-ready
   two-judged {n} {k} {r} {s} e j q i = record {
@@ -175,7 +174,7 @@ module _ {bytes decl : List ℕ} {at result : ℕ} {slots : List Slot} {bound m 
         flag = v .4;
       }
 
-  pub many-judged : {n left credit : ℕ} {r : Checked} → f ≡ Many n left credit → JudgedAll bytes decl n left credit 0 result inner more r → Judged bytes decl at result slots bound r
+  pub many-judged : {n left credit : ℕ} {r : Read} → f ≡ Many n left credit → JudgedAll bytes decl n left credit 0 result inner more r → Judged bytes decl at result slots bound r
   unfolding many-ready
   many-judged {n} {left} {credit} {r} e j = record {
     judged = λ g.
@@ -200,7 +199,7 @@ module _ {bytes decl : List ℕ} {at result : ℕ} {slots : List Slot} {bound m 
         h .noted (one-ready e g) c ∙ sym (v .5 c x ∙ ap (noteCalls (calls (v .0) c)) (own x q g));
   }
 
-  pub two-noted : {n k x y u z : ℕ} {r : Checked} → f ≡ Two n → y ≡ noteAt bytes at m x → Judged bytes decl n result inner more r → r ≡ Next k → Noted bytes decl n result more y u
+  pub two-noted : {n k x y u z : ℕ} {r : Read} → f ≡ Two n → y ≡ noteAt bytes at m x → Judged bytes decl n result inner more r → r ≡ Next k → Noted bytes decl n result more y u
       → Noted bytes decl k result more u z → Noted bytes decl at result bound x z
   unfolding two-ready second-ready
   two-noted {n} {k} {x} {y} {u} {z} {r} e q j p h i = record {

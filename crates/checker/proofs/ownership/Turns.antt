@@ -15,12 +15,12 @@ use Rattle.meaning.specs.declared.Slot.{Slot}
 use Rattle.meaning.specs.Choice.{pick}
 use Rattle.meaning.specs.Sets.{first}
 use Rattle.meaning.specs.Ownership as tree
-use Rattle.standing.specs.Bytes.{byteAt, arityIn, fieldsIn}
+use Rattle.standing.specs.Bytes.{byteAt}
 use Rattle.checker.specs.declared.slots.Want.{Want}
 use Rattle.checker.specs.declared.ownership.Taken.{Taken}
 use Rattle.checker.specs.OwnershipBits.{bitsOf}
 use Rattle.checker.specs.Slots.{kindOf, usedIn, slotOf, slotsOf, usedKind, nowKind, spentBy, unbound, bound-slot, wantOf, spendsOf, testOf, wantAt, kindAt, keptOf}
-use Rattle.checker.specs.Ownership.{fine, fault, onFine, takeKind, takeOf, barsOf, listOf, closeOf, laidOf, creditsOf, branchOf}
+use Rattle.checker.specs.Ownership.{fine, fault, onFine, takeKind, takeOf, barsOf, listOf, closeOf, laidOf, boundOf}
 use Rattle.checker.proofs.ownership.Bits.{bits-none, bits-length}
 use Rattle.checker.proofs.ownership.Spending.{slots-length, spent-none, spent-first, spent-at}
 
@@ -128,7 +128,7 @@ module _ (bytes : List ℕ) (slots : List Slot) (bound scale : ℕ) where
 
 -- ---- slots bound one after the other
 module _ (bytes : List ℕ) (scale at : ℕ) where
-  pub laid-end : (n modes bound : ℕ) (out : List Slot) → n ≡ 0 → laidOf bytes scale at n modes bound out ≡ out
+  laid-end : (n modes bound : ℕ) (out : List Slot) → n ≡ 0 → laidOf bytes scale at n modes bound out ≡ out
   unfolding laidOf
   laid-end n modes bound out e = rw e
 
@@ -226,16 +226,16 @@ module _ (bytes : List ℕ) (slots : List Slot) (bound scale count modes at j ea
         let r : at + (j + 1) ≡ at + j + 1 = omega arith in
         x ∙ rw (p, q, r) (list-turn bytes slots bound scale (count - j) (modes + j) (at + j) earlier spent i b w barred t (omega arith) ei l eb ew er et z earlier′ ee)
 
--- ---- the slots of a branch
-module _ (bytes decl : List ℕ) (c at credit : ℕ) (slots : List Slot) (bound k m x : ℕ) (out : List Slot)
-    (ek : k ≡ arityIn decl c) (em : m ≡ fieldsIn decl c) (eo : out ≡ laidOf bytes (1 + credit) at k m bound slots) (ex : x ≡ creditsOf k credit) where
-  pub branch-credit : x ≡ 1 → set out (bound + k) (bound-slot (kind.Credit k) at) ≡ branchOf bytes decl c at credit slots bound
-  unfolding branchOf pick
-  branch-credit e = let q : eqb (creditsOf k credit) 1 ≡ true = eq-eqb (creditsOf k credit) 1 (sym ex ∙ e) in rw (← ek, ← em, q, ← eo)
+-- ---- and the credit behind them
+module _ (bytes : List ℕ) (scale at count modes bound credit j : ℕ) (slots out : List Slot)
+    (x : laidOf bytes scale at count modes bound slots ≡ laidOf bytes scale at (count - j) (modes + j) (bound + j) out) (h : count ≤ j) where
+  laid-all : laidOf bytes scale at count modes bound slots ≡ out
+  laid-all = x ∙ laid-end bytes scale at (count - j) (modes + j) (bound + j) out (omega arith)
 
-  pub branch-plain : (x ≡ 1 → ⊥) → out ≡ branchOf bytes decl c at credit slots bound
-  unfolding branchOf pick
-  branch-plain n = let q : eqb (creditsOf k credit) 1 ≡ false = ne-eqb (creditsOf k credit) 1 (λ z. n (ex ∙ z)) in rw (← ek, ← em, q, ← eo)
+  pub bound-credit : credit ≡ 1 → set out (bound + count) (bound-slot (kind.Credit count) at) ≡ boundOf bytes scale at count modes bound slots credit
+  unfolding boundOf pick
+  bound-credit e = let q : eqb credit 1 ≡ true = eq-eqb credit 1 e in rw (q, laid-all)
 
-  pub branch-fits : x ≡ 1 → bound + arityIn decl c + creditsOf (arityIn decl c) credit ≤ 32 → bound + k < 32
-  branch-fits e h = let q : creditsOf (arityIn decl c) credit ≡ 1 = ap (λ z. creditsOf z credit) (sym ek) ∙ sym ex ∙ e in omega arith
+  pub bound-plain : (credit ≡ 1 → ⊥) → out ≡ boundOf bytes scale at count modes bound slots credit
+  unfolding boundOf pick
+  bound-plain n = let q : eqb credit 1 ≡ false = ne-eqb credit 1 n in rw (q, laid-all)

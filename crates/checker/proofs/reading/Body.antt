@@ -456,8 +456,5 @@ ends-at f d count x p h a b e = inr (a, e, omega arith)
 pub said : (f d : List ℕ) (r : Read) {at b s s′ : ℕ} → b ≡ at → s ≡ s′ → ReadsTerm f d b (path s 0) r → ReadsTerm f d at (path s′ 0) r
 said f d r {at} {b} {s} {s′} e q x = subst (λ a. ReadsTerm f d a (path s′ 0) r) e (subst (λ n. ReadsTerm f d b (path n 0) r) q x)
 
-pub said-next : {r : Read} {n m : ℕ} → r ≡ Next n → n ≡ m → r ≡ Next m
-said-next e q = e ∙ ap Next q
-
 pub all-read : {f d : List ℕ} {count j at : ℕ} → j ≤ count → count ≤ j → Bodied f d count j at → Bodied f d count count at
 all-read {f} {d} {count} {j} {at} h l C = let e : j ≡ count = omega arith in subst (λ n. Bodied f d count n at) e C

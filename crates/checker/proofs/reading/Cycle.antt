@@ -18,8 +18,7 @@ use Rattle.checker.specs.declared.reading.Read.the-variants.{Next, Fault
 use Rattle.meaning.specs.Choice.{pick}
 use Rattle.standing.specs.Bytes.{markAt}
 use Rattle.checker.specs.ReadingBytes.{knownArity, path, nodeOf, nodeAt, moreOf, fitting, branchFieldsBy, branchBy}
-use Rattle.checker.specs.ReadingBytes as bytes
-use Rattle.checker.specs.Reads.{spanOf, Declares, arityOf, extraOf, on}
+use Rattle.checker.specs.Reads.{spanOf, Declares, arityOf, extraOf}
 use Rattle.meaning.proofs.Table.{is-BR}
 use Rattle.checker.proofs.reading.Spans.{Spans, went, fell, andThen, bind, within, span-is, span-same, ensure-law, declared-law, two-law}
 use Rattle.checker.proofs.reading.Nodes.{Terms, Lists, byFollow, byNode, node-spans}

@@ -1,5 +1,5 @@
 -- The parts of a file one after the other: what the code knows between them. Assumes nothing.
-use Prim.Native.Nat.{ℕ, _+_, _≤_, _<_}
+use Prim.Native.Nat.{ℕ, _+_, _≤_}
 use mathlib.Core.List.{List}
 use mathlib.Core.Logic.{inl, inr, ⊎-elim}
 use mathlib.Core.Path.{_≡_, refl, sym, _∙_, subst}
@@ -16,11 +16,7 @@ use Rattle.checker.specs.declared.reading.Reached.{Reached}
 use Rattle.checker.specs.ReadingBytes.{numberAt}
 use Rattle.checker.specs.Opening.{Refused, ConsRead, Headed, FunsRead, Bodied, HeaderRead, Ends}
 use Rattle.checker.proofs.reading.Opened.{headed-start}
-use Rattle.checker.proofs.reading.Body.{too-long, none-short, none-here, ends-by, bodied-start}
-
-pub ends-long : (f d : List ℕ) (count : ℕ) → 4096 < length f → Ends f d count 0 1
-unfolding Ends
-ends-long f d count h = inr (omega arith, too-long f h, omega arith)
+use Rattle.checker.proofs.reading.Body.{none-short, none-here, ends-by, bodied-start}
 
 module _ (f d : List ℕ) (r : Reached) where
   pub cons-refused : (d′ : List ℕ) (count : ℕ) → length f ≤ 4096 → ConsRead f d r → (r .number ≡ 0 → ⊥) → Ends f d′ count (r .at) (r .number)
@@ -65,10 +61,6 @@ module _ (f d : List ℕ) (r : Reached) where
   header-some B n = inl (n, B)
 
   -- what is known behind the header
-  pub header-ends : (d′ : List ℕ) → HeaderRead f d r → (r .number ≡ 0 → ⊥) → Ends f d′ (r .count) (r .at) (r .number)
-  unfolding Ends HeaderRead
-  header-ends d′ H n = ⊎-elim (λ x. absurd (n (x .0))) inr H
-
   pub header-read : HeaderRead f d r → r .number ≡ 0 → Bodied f d (r .count) 0 (r .at)
   unfolding HeaderRead
   header-read H n = ⊎-elim (λ x. x .1) (λ x. absurd (omega (arith, x .0))) H

@@ -10,7 +10,7 @@ use native.Mathlib.Omega.{arith}
 use borrow.Author.Tests.{leb-true, leb-false, ltb-true, ltb-false, eqb-false, le-leb, lt-leb, lt-ltb, le-ltb, ne-eqb}
 use Rattle.meaning.specs.Syntax.{Signature, Constructor, Term, Branches}
 use Rattle.meaning.specs.Outcome.{Outcome, refuse, then}
-use Rattle.meaning.specs.Reading.{Reader, ensure, declared, any, is-atom, is-node, credits, limits, node}
+use Rattle.meaning.specs.Reading.{Reader, ensure, any, is-atom, is-node, credits, limits, node}
 use Rattle.meaning.specs.Marks.{Mark, CN, FN, BD, ND, GV, AT, MK, CL, TL, OP, LK, BR, NU, AR, IF, other, rowAt, numberOf}
 use Rattle.checker.specs.declared.reading.Path.{Path}
 use Rattle.checker.specs.declared.reading.Then.{Then}

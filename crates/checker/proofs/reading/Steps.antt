@@ -8,7 +8,7 @@ use lib.Dec.{leb, ltb, eqb}
 use native.Mathlib.Omega.{arith}
 use borrow.Author.Tests.{leb-false, ltb-false}
 use Rattle.meaning.specs.Syntax.{Signature, Constructor}
-use Rattle.meaning.specs.Reading.{term, branches}
+use Rattle.meaning.specs.Reading.{branches}
 use Rattle.checker.specs.declared.reading.Path.{Path}
 use Rattle.checker.specs.declared.reading.Then.{Then}
 use Rattle.checker.specs.declared.reading.Then.the-variants as then′
@@ -170,34 +170,27 @@ fault-of {f = f} {at = at} {lo = lo} {x = x} {q = q} e a = got (subst (Ahead f a
     got : Ahead f at (then′.Fault x q) → From f lo (Fault x q)
     got (fault l h) = off l h
 
--- ---- a branch's record that was read ends within the file, and its slots keep the limit
-data Kept (f : List ℕ) (at : ℕ) : Read → Type 0 where
-  kept : {n : ℕ} → at + 3 ≤ length f → n ≤ 32 → Kept f at (Next n)
-  lost : {x q : ℕ} → 0 < x → q ≤ length f → Kept f at (Fault x q)
+-- ---- a branch's record that does not read is refused at a place within the file
+data Kept (f : List ℕ) : Read → Type 0 where
+  kept : {n : ℕ} → Kept f (Next n)
+  lost : {x q : ℕ} → 0 < x → q ≤ length f → Kept f (Fault x q)
 
-kept-pick : {f : List ℕ} {at : ℕ} (b : Bool) {x y : Read} → (b ≡ true → Kept f at x) → (b ≡ false → Kept f at y) → Kept f at (pick b x y)
+kept-pick : {f : List ℕ} (b : Bool) {x y : Read} → Kept f x → (b ≡ false → Kept f y) → Kept f (pick b x y)
 unfolding pick
-kept-pick true p q = p refl
+kept-pick true p q = p
 kept-pick false p q = q refl
 
-branch-kept : (f d : List ℕ) (at credit s : ℕ) → at ≤ length f → Kept f at (branchBy (fitting at) f d at credit s)
+branch-kept : (f d : List ℕ) (at credit s : ℕ) → at ≤ length f → Kept f (branchBy (fitting at) f d at credit s)
 unfolding branchBy branchFieldsBy fitting
 branch-kept f d at credit s h =
-    kept-pick _ (λ _. lost (omega arith) (omega arith)) (λ _. kept-pick _ (λ _. kept-pick _ (λ _. lost (omega arith) (omega arith)) (λ e.
+    kept-pick _ (lost (omega arith) (omega arith)) (λ _. kept-pick _ (kept-pick _ (lost (omega arith) (omega arith)) (λ e.
     let l = leb-false (length f) (at + 2) e in
-    kept-pick _ (λ _. lost (omega arith) (omega arith)) (λ _.
-    kept-pick _ (λ _. lost (omega arith) h) (λ e′. kept (omega arith) (ltb-false 32 _ e′))))) (λ _. lost (omega arith) h))
-
-pub branch-of : (f d : List ℕ) (at credit s : ℕ) {n : ℕ} → at ≤ length f → branchBy (fitting at) f d at credit s ≡ Next n → (at + 3 ≤ length f) × (n ≤ 32)
-branch-of f d at credit s {n} h e = got (subst (Kept f at) e (branch-kept f d at credit s h))
-  where
-    got : Kept f at (Next n) → (at + 3 ≤ length f) × (n ≤ 32)
-    got (kept l w) = (l, w)
+    kept-pick _ (lost (omega arith) (omega arith)) (λ _. kept-pick _ (lost (omega arith) h) (λ _. kept)))) (λ _. lost (omega arith) h))
 
 pub branch-off : (f d : List ℕ) (at credit s : ℕ) {lo x q : ℕ} → at ≤ length f → branchBy (fitting at) f d at credit s ≡ Fault x q → From f lo (Fault x q)
-branch-off f d at credit s {lo} {x} {q} h e = got (subst (Kept f at) e (branch-kept f d at credit s h))
+branch-off f d at credit s {lo} {x} {q} h e = got (subst (Kept f) e (branch-kept f d at credit s h))
   where
-    got : Kept f at (Fault x q) → From f lo (Fault x q)
+    got : Kept f (Fault x q) → From f lo (Fault x q)
     got (lost l w) = off l w
 
 -- ---- one law for each way a term goes on
@@ -270,20 +263,8 @@ module _ (f d : List ℕ) (at credit : ℕ) (p : Path) (h : at ≤ length f) (hk
   branch-reads c k e s a r q u v w t b = lists-by c k e r (λ cs fs D m l. rw (q, ← t cs fs D m (omega arith)) (b cs fs D m (omega arith)))
 
 -- ---- small steps for the code's proof
-pub from-on : {f : List ℕ} {at n : ℕ} → (at < n) × (n ≤ length f) → From f (at + 1) (Next n)
-from-on {at = at} {n = n} x = let w : at + 1 ≤ n = omega (arith, x .0) in on w (x .1)
-
 pub from-here : {f : List ℕ} {at : ℕ} → at ≤ length f → From f at (Next at)
 from-here {at = at} h = let w : at ≤ at = omega arith in on w h
-
-pub from-past : {f : List ℕ} {at a : ℕ} {r : Read} → at < a → From f (a + 1) r → From f (at + 1) r
-from-past h x = from-le (omega arith) x
-
-pub from-at : {f : List ℕ} {at a : ℕ} {r : Read} → at < a → From f a r → From f (at + 1) r
-from-at h x = from-le (omega arith) x
-
-pub from-late : {f : List ℕ} {at a : ℕ} {r : Read} → at ≤ a → From f a r → From f at r
-from-late h x = from-le h x
 
 pub pred-is : (k : ℕ) → (k ≡ 0 → ⊥) → k ≡ suc (k - 1)
 pred-is zero h = absurd (h refl)

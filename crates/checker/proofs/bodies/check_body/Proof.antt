@@ -36,13 +36,13 @@ result-of-requires : tie.Need-result-of-requires
 result-of-requires c κs = (omega (arith, c .before .before .before .before .before .before .before .before .before .before .pre .1), c .before .before .before .before .before .before .before .before .before .before .pre .0 .wide)
 
 check-term-requires : tie.Need-check-term-requires
-check-term-requires c κs = made-passable _ _ _ _ (c .before .before .before .before .before .before .before .before .before .before .before .before .pre .1) _ _ (c .before .before .before .before .before .before .params .ensures .0) (sym (c .before .before .before .before .before .before .before .before .before .before .expect-mark .ensures) ∙ c .before .before .before .before .before .before .before .before .start .given .1) (c .before .before .before .before .before .before .before .before .before .before .before .before .pre .0 .small) (c .before .before .before .before .before .before .before .before .before .before .before .before .pre .0 .wide) (c .before .before .before .before .before .before .before .before .before .before .before .before .pre .2)
+check-term-requires c κs = made-passable _ _ _ _ (c .before .before .before .before .before .before .before .before .before .before .before .before .before .before .pre .1) _ _ (c .before .before .before .before .before .before .before .before .params .ensures .0) (sym (c .before .before .before .before .before .before .before .before .before .before .before .before .expect-mark .ensures) ∙ c .before .before .before .before .before .before .before .before .before .before .start .given .1) (c .before .before .before .before .before .before .before .before .before .before .before .before .before .before .pre .0 .small) (c .before .before .before .before .before .before .before .before .before .before .before .before .before .before .pre .0 .wide) (c .before .before .before .before .before .before .before .before .before .before .before .before .before .before .pre .2)
 
 returns : tie.Need-returns
 returns c = body-unread _ _ _ _ _ _ (c .before .before .before .before .before .pre .0 .inside) (sym (c .before .before .before .expect-mark .ensures) ∙ c .before .number .given .1)
 
 returns-2 : tie.Need-returns-2
-returns-2 c = made-passed _ _ _ _ (c .before .before .before .before .before .before .before .before .before .before .before .before .before .pre .1) _ _ (c .before .before .before .before .before .before .before .params .ensures .0) (sym (c .before .before .before .before .before .before .before .before .before .before .before .expect-mark .ensures) ∙ c .before .before .before .before .before .before .before .before .before .start .given .1) _ _ _ _ _ _ (c .before .before .before .before .before .modes .ensures .0) (c .before .before .result-of .ensures .0) (c .before .before .before .before .before .before .fresh-slots .ensures) (c .before .before .before .bind-all .ensures) (c .check-term .ensures)
+returns-2 c = made-passed _ _ _ _ (c .before .before .before .before .before .before .before .before .before .before .before .before .before .before .before .pre .1) _ _ (c .before .before .before .before .before .before .before .before .before .params .ensures .0) (sym (c .before .before .before .before .before .before .before .before .before .before .before .before .before .expect-mark .ensures) ∙ c .before .before .before .before .before .before .before .before .before .before .before .start .given .1) _ _ _ _ _ _ (c .before .before .before .before .before .before .before .modes .ensures .0) (c .before .before .before .before .result-of .ensures .0) (c .before .before .before .before .before .before .before .before .fresh-slots .ensures) (c .before .before .before .before .before .bind-all .ensures) (c .check-term .ensures)
 
 pub check-body-spec : {M : Type 1} → statement M
 check-body-spec =

@@ -7,7 +7,7 @@ use Rattle.checker.proofs.reading.Filed.{header-read}
 use Rattle.checker.proofs.bodies.Filing.{finished-long, header-stops}
 
 returns : tie.Need-returns
-returns c = finished-long _ _ _ (c .if1 .taken)
+returns c = finished-long _ _ _ _ (c .if1 .taken)
 
 read-header-requires : tie.Need-read-header-requires
 read-header-requires c κs = (c .before .if1 .left, c .before .before .before .pre .0 ∙ sym (table-blank 128 refl))
@@ -22,11 +22,4 @@ returns-3 : tie.Need-returns-3
 returns-3 c = c .check-bodies .ensures
 
 pub check-file-spec : {M : Type 1} → statement M
-check-file-spec =
-    tie.close
-    (tie.spec
-    returns
-    read-header-requires
-    returns-2
-    check-bodies-requires
-    returns-3)
+check-file-spec = tie.close (tie.spec returns read-header-requires returns-2 check-bodies-requires returns-3)

@@ -8,7 +8,6 @@ use mathlib.Core.Path.{_≡_, ap, _∙_}
 use native.Mathlib.Omega.{arith}
 use lib.ListN.{length, getD, length-set}
 use Rattle.checker.specs.declared.reading.Read.{Read}
-use Rattle.checker.specs.declared.bodies.Checked.{Checked}
 use Rattle.checker.specs.Slots.{unbound}
 use Rattle.checker.specs.Reads.{ReadsTerm}
 use Rattle.checker.specs.OwnershipReady.{Judged, Noted}
@@ -18,7 +17,7 @@ abbrev Inv-loop : tie.InvT-loop
 Inv-loop file start inner₀ at₀ path₀ inner at path =
     (start ≤ at) × (at ≤ length file) × (length inner ≡ 32) × (path .slots ≤ 32) × (path .nodes ≤ 64)
     × ((d : List ℕ) (q : Read) → ReadsTerm file d at path q → ReadsTerm file d start path₀ q)
-    × ((d : List ℕ) (result : ℕ) (c : Checked) → Judged file d at result inner (path .slots) c → Judged file d start result inner₀ (path₀ .slots) c)
+    × ((d : List ℕ) (result : ℕ) (c : Read) → Judged file d at result inner (path .slots) c → Judged file d start result inner₀ (path₀ .slots) c)
     × ((d : List ℕ) (result w w′ : ℕ) → Noted file d at result (path .slots) w w′ → Noted file d start result (path₀ .slots) w w′)
 
 abbrev μ-loop : tie.MeasureT-loop
