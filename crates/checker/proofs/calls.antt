@@ -1,5 +1,4 @@
 -- The laws behind the module `calls`.
-pub mod Digits
 pub mod Filling
 pub mod Members
 pub mod Halves

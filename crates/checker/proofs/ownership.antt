@@ -1,4 +1,3 @@
-pub mod Bits
 pub mod Spending
 pub mod Taking
 pub mod Turns

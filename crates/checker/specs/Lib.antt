@@ -1,8 +1,8 @@
 pub mod ReadingBytes
 pub mod Reads
 pub mod Opening
-pub mod OwnershipBits
 pub mod Bits
+pub mod Levels
 pub mod Noting
 pub mod Slots
 pub mod Ownership

@@ -16,8 +16,8 @@ use Rattle.meaning.specs.Syntax.{File}
 use Rattle.meaning.specs.Machine.{body-of}
 use Rattle.meaning.specs.Calls.{Square, calls, entry, called, Reaches}
 use Rattle.standing.specs.Bytes.{byteAt}
-use Rattle.checker.specs.OwnershipBits.{bitsOf}
-use Rattle.checker.specs.Bits.{filled}
+use Rattle.checker.specs.Bits.{bitsOf}
+use Rattle.checker.specs.Levels.{filled}
 
 -- the call of a record, by its mark's place in the table: of CL and TL alone
 unfoldable pub noteAt : (bytes : List ℕ) → (at mark word : ℕ) → ℕ

@@ -17,7 +17,7 @@ use Rattle.checker.specs.declared.slots.Want.the-variants as want
 use Rattle.checker.specs.declared.ownership.Taken.{Taken}
 use Rattle.checker.specs.declared.reading.Then.{Then}
 use Rattle.checker.specs.declared.reading.Then.the-variants.{Leaf, One, Two, Many}
-use Rattle.checker.specs.OwnershipBits.{bitsOf}
+use Rattle.checker.specs.Bits.{bitsOf}
 use Rattle.checker.specs.Slots.{nowKind, spendsOf, testOf, wantAt, wantBack, kindAt, slotsOf, spentBy, unbound, bound-slot}
 
 abbrev pub fine : ℕ → Taken

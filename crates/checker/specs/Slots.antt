@@ -11,7 +11,7 @@ use Rattle.meaning.specs.Choice.{pick}
 use Rattle.meaning.specs.Ownership as tree
 use Rattle.checker.specs.declared.slots.Want.{Want}
 use Rattle.checker.specs.declared.slots.Want.the-variants as want
-use Rattle.checker.specs.OwnershipBits.{bitsOf}
+use Rattle.checker.specs.Bits.{bitsOf}
 
 abbrev pub kindOf : Kind → tree.Kind
 kindOf Number = tree.Kind.number

@@ -1,64 +1,25 @@
 // Which function calls which and how, as a square, and the verdict that follows from it: flat with its depth, or stacked.
+use crate::sets::count_of;
+use crate::sets::either;
+use crate::sets::except;
+use crate::sets::has;
+use crate::sets::lowest;
+use crate::sets::with;
+use crate::sets::without_lowest;
 use meaning::How;
 use meaning::Verdict;
 ghost use mathlib.Core.Path.{_≡_};
-ghost use mathlib.Core.Bool.{true, false};
+ghost use mathlib.Core.Bool.{true};
 ghost use Prim.Native.Nat.{_<_, _≤_};
-ghost use lib.ListN.{set, getD, length, replicate};
+ghost use lib.ListN.{getD, length, replicate};
 ghost use Rattle.meaning.specs.declared.How.the-variants.{Never};
 ghost use Rattle.meaning.specs.Outcome.{ok};
-ghost use Rattle.meaning.specs.Sets.{upto, first, how-many, zip, or, except};
+ghost use Rattle.meaning.specs.Sets.{upto, how-many};
 ghost use Rattle.meaning.specs.Calls.{judge, IsReached};
 ghost use Rattle.meaning.specs.Answers.{told};
-ghost use Rattle.checker.specs.OwnershipBits.{bitsOf};
-ghost use Rattle.checker.specs.Bits.{member, closure, onward, Settles};
+ghost use Rattle.checker.specs.Bits.{bitsOf};
+ghost use Rattle.checker.specs.Levels.{member, closure, onward, Settles};
 ghost use Rattle.checker.specs.Noting.{waitsIn, tailsIn, wayOf, rowOf, squareOf, goes, Led, Called, Tells};
-
-// ---- sets of functions, as bits
-
-// One member more.
-fn with(x: u32, i: u32) -> u32
-    requires { ⌜ i < 32 ⌝ }
-    ensures { λ r. ⌜ bitsOf 32 r ≡ set (bitsOf 32 x) i true ⌝ }
-{
-    x | (1 << i)
-}
-
-// The smallest member, or 32.
-fn lowest(x: u32) -> u32
-    ensures { λ r. ⌜ (r ≡ first (bitsOf 32 x)) × (r ≤ 32) ⌝ }
-{
-    u32::trailing_zeros(x)
-}
-
-// The smallest member taken out.
-fn without_lowest(x: u32) -> u32
-    requires { ⌜ 0 < x ⌝ }
-    ensures { λ r. ⌜ bitsOf 32 r ≡ set (bitsOf 32 x) (first (bitsOf 32 x)) false ⌝ }
-{
-    x & (x - 1)
-}
-
-// How many members a set has.
-fn count_of(x: u32) -> u32
-    ensures { λ r. ⌜ (r ≡ how-many (bitsOf 32 x)) × (r ≤ 32) ⌝ }
-{
-    u32::count_ones(x)
-}
-
-// The members of both.
-fn either(x: u32, y: u32) -> u32
-    ensures { λ r. ⌜ bitsOf 32 r ≡ zip or (bitsOf 32 x) (bitsOf 32 y) ⌝ }
-{
-    x | y
-}
-
-// The members of x that are not in y.
-fn except(x: u32, y: u32) -> u32
-    ensures { λ r. ⌜ bitsOf 32 r ≡ except (bitsOf 32 x) (bitsOf 32 y) ⌝ }
-{
-    (x | y) ^ y
-}
 
 // ---- the square
 
@@ -77,11 +38,11 @@ fn tails_of(calls: u64) -> u32
 }
 
 // How a function is called that is waited for or else called last.
-fn way(waits: u32, i: u32) -> How
+fn way(waits: u32, i: usize) -> How
     requires { ⌜ i < 32 ⌝ }
     ensures { λ r. ⌜ r ≡ wayOf (bitsOf 32 waits) i ⌝ }
 {
-    if (waits >> i) % 2 == 1 {
+    if has(waits, i) {
         return How::Waits;
     }
     How::Tail
@@ -99,7 +60,7 @@ fn row_of(waits: u32, tails: u32) -> [How; 32]
         if 32 <= i {
             return out;
         }
-        out[i as usize] = way(waits, i);
+        out[i] = way(waits, i);
         left = without_lowest(left);
         k += 1;
     }
@@ -153,7 +114,7 @@ fn waiting(row: [How; 32], called: u32) -> u32
         if 32 <= i {
             return out;
         }
-        let how = row[i as usize];
+        let how = row[i];
         if is_waiting(how) {
             out = with(out, i);
         }
@@ -175,7 +136,7 @@ fn closure(rows: &[u32; 32], start: u32) -> u32
         if 32 <= i {
             return seen;
         }
-        let row = rows[i as usize];
+        let row = rows[i];
         let left = without_lowest(todo);
         let fresh = except(row, seen);
         todo = either(left, fresh);
@@ -197,7 +158,7 @@ fn onward(rows: &[u32; 32], set: u32) -> u32
         if 32 <= i {
             return out;
         }
-        out = either(rows[i as usize], out);
+        out = either(rows[i], out);
         left = without_lowest(left);
         k += 1;
     }
@@ -239,11 +200,11 @@ fn visit(
         if 32 <= i {
             return seen;
         }
-        let row = square[i as usize];
-        let calls = called[i as usize];
+        let row = square[i];
+        let calls = called[i];
         let wait = waiting(row, calls);
-        waits[i as usize] = wait;
-        tails[i as usize] = except(calls, wait);
+        waits[i] = wait;
+        tails[i] = except(calls, wait);
         let left = without_lowest(todo);
         let fresh = except(calls, seen);
         todo = either(left, fresh);

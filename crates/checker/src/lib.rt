@@ -3,6 +3,7 @@ mod bodies;
 mod calls;
 mod ownership;
 mod reading;
+mod sets;
 mod slots;
 
 use crate::bodies::check_file;

@@ -1,14 +1,14 @@
 // The ownership check: what a record takes, spends and binds; answers 7 to 12.
+use crate::sets::has;
+use crate::sets::with;
 use crate::slots::Want;
 use crate::slots::current;
-use crate::slots::has;
 use crate::slots::kind_of;
 use crate::slots::left_over;
 use crate::slots::spends;
 use crate::slots::test;
 use crate::slots::want_back;
 use crate::slots::want_of;
-use crate::slots::with;
 use meaning::AR;
 use meaning::BYTES;
 use meaning::CL;
@@ -29,7 +29,7 @@ ghost use lib.ListN.{length, set, getD};
 ghost use lib.Bits.{bitOr};
 ghost use Rattle.meaning.specs.Marks.{findMark};
 ghost use Rattle.standing.specs.Bytes.{byteAt, markAt, arityIn, fieldsIn, paramsIn, modesIn};
-ghost use Rattle.checker.specs.OwnershipBits.{bitsOf};
+ghost use Rattle.checker.specs.Bits.{bitsOf};
 ghost use Rattle.checker.specs.Ownership.{fine, fault, resultIn, takeKind, takeOf, barsOf, listOf, closeOf, makeOf, callOf, giveOf, tailOf, manyOf, takesMany, namedOf, twoOf, namesOf, firstPlace, secondPlace, kindBy, boundOf, creditsOf, branchOf, repeatOf};
 
 // What a record takes: the slots that it spends, as bits; or, where the number is not 0, a fault and its place.

@@ -1,15 +1,13 @@
-// The slots of a path: what a record may ask of one, sets of slots as the bits of a number, and slots spent and bound.
+// The slots of a path: what a record may ask of one, and slots spent and bound.
+use crate::sets::has;
 use meaning::Kind;
 use meaning::Slot;
 ghost use mathlib.Core.Path.{_≡_};
-ghost use mathlib.Core.Bool.{false};
-ghost use Prim.Native.Nat.{_^_, _<_, _≤_};
-ghost use lib.ListN.{set, getD, replicate};
-ghost use lib.Bits.{bitOr};
-ghost use Rattle.meaning.specs.Sets.{first};
+ghost use Prim.Native.Nat.{_≤_};
+ghost use lib.ListN.{replicate};
 ghost use Rattle.meaning.specs.Ownership.{fits, sized, leftover, remains};
 ghost use Rattle.meaning.specs.Ownership as tree;
-ghost use Rattle.checker.specs.OwnershipBits.{bitsOf};
+ghost use Rattle.checker.specs.Bits.{bitsOf};
 ghost use Rattle.checker.specs.Slots.{kindOf, usedIn, usedKind, nowKind, wantOf, spendsOf, testOf, kindAt, wantAt, wantBack, slotsOf, spentBy, unbound};
 
 // What a record asks of a slot: a number, a lent tree to look at, a tree to lend, an owned tree, or a credit of a size.
@@ -249,38 +247,6 @@ pub(crate) fn kind_of(mode: usize) -> Kind
         return Kind::Lent;
     }
     Kind::Owned
-}
-
-// Is slot i in the set?
-pub(crate) fn has(slots: u32, i: usize) -> bool
-    requires { ⌜ i < 32 ⌝ }
-    ensures { λ r. ⌜ r ≡ getD (bitsOf 32 slots) i false ⌝ }
-{
-    (slots >> (i as u32)) % 2 == 1
-}
-
-// The set with slot i.
-pub(crate) fn with(slots: u32, i: usize) -> u32
-    requires { ⌜ i < 32 ⌝ }
-    ensures { λ r. ⌜ r ≡ bitOr slots (2 ^ i) ⌝ }
-{
-    slots | (1 << (i as u32))
-}
-
-// The first slot of a set.
-pub(crate) fn lowest(slots: u32) -> usize
-    requires { ⌜ 0 < slots ⌝ }
-    ensures { λ r. ⌜ (r ≡ first (bitsOf 32 slots)) × (r < 32) ⌝ }
-{
-    u32::trailing_zeros(slots) as usize
-}
-
-// The set without its first slot.
-pub(crate) fn without_lowest(slots: u32) -> u32
-    requires { ⌜ 0 < slots ⌝ }
-    ensures { λ r. ⌜ (bitsOf 32 r ≡ set (bitsOf 32 slots) (first (bitsOf 32 slots)) false) × (r < slots) ⌝ }
-{
-    slots & (slots - 1)
 }
 
 // Is an owned slot or a credit left among the bound ones, those of the set spent?

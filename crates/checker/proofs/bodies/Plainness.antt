@@ -19,7 +19,7 @@ use Rattle.checker.specs.declared.ownership.Taken.{Taken}
 use Rattle.checker.specs.declared.reading.Path.{Path}
 use Rattle.checker.specs.declared.reading.Read.{Read}
 use Rattle.checker.specs.declared.reading.Then.the-variants as then
-use Rattle.checker.specs.OwnershipBits.{bitsOf}
+use Rattle.checker.specs.Bits.{bitsOf}
 use Rattle.checker.specs.Slots.{nowKind, testOf, keptOf, unbound, bound-slot}
 use Rattle.checker.specs.Ownership.{fine, fault, onFine, takeKind, takenOf, takesMany, firstPlace, secondPlace, namedOf, twoOf, namesOf, kindBy, namedBy, pastOf, thenOf}
 use Rattle.checker.specs.Noting.{noteAt}

@@ -22,7 +22,7 @@ use Rattle.checker.specs.declared.reading.Read.{Read}
 use Rattle.checker.specs.declared.reading.Read.the-variants.{Next, Fault}
 use Rattle.checker.specs.declared.ownership.Taken.{Taken}
 use Rattle.checker.specs.declared.bodies.Plain.{Plain}
-use Rattle.checker.specs.OwnershipBits.{bitsOf}
+use Rattle.checker.specs.Bits.{bitsOf}
 use Rattle.checker.specs.Slots.{unbound, keptOf}
 use Rattle.checker.specs.Ownership.{takesMany, firstPlace, secondPlace, namesOf, takenOf, kindBy, thenOf, creditsOf, branchOf, repeatOf}
 use Rattle.checker.specs.Noting.{noteAt}

@@ -17,7 +17,7 @@ use Rattle.meaning.specs.Calls.{Distinct, more}
 use Rattle.theory.proofs.Counting.{no-longer, numbers, numbers-length, in-numbers, has-inv, nowhere}
 use Rattle.theory.proofs.Bools.{zip-length, zip-at, first-in, first-none}
 use Rattle.theory.proofs.Reach.{clash, decided}
-use Rattle.checker.specs.Bits.{visits, closure, onward}
+use Rattle.checker.specs.Levels.{visits, closure, onward}
 
 or-cases : (r s : Bool) → or r s ≡ true → (r ≡ true) ⊎ (s ≡ true)
 or-cases true s e = inl refl

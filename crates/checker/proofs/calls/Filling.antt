@@ -9,7 +9,7 @@ use lib.ListN.{length, set, getD, replicate, length-append, length-replicate, ge
 use lib.Seq.{set-at, append-snoc, getD-append-add}
 use Rattle.meaning.specs.Sets.{upto}
 use Rattle.theory.proofs.Bools.{upto-length, upto-at}
-use Rattle.checker.specs.Bits.{filled}
+use Rattle.checker.specs.Levels.{filled}
 
 module _ {A : Type 0} (d : A) where
   pub fill-start : (g : ℕ → A) → replicate 32 d ≡ filled d 0 g

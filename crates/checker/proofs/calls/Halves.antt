@@ -10,9 +10,9 @@ use lib.Dec.{eqb}
 use lib.Pow.{shr-shr, field, mod-mod-pow}
 use Rattle.meaning.specs.Sets.{upto}
 use Rattle.theory.proofs.Bools.{upto-length, upto-at}
-use Rattle.checker.specs.OwnershipBits.{bitsOf}
+use Rattle.checker.specs.Bits.{bitsOf}
 use Rattle.checker.specs.Noting.{waitsIn, tailsIn}
-use Rattle.checker.proofs.calls.Digits.{has-bit, bits-length}
+use Rattle.checker.proofs.sets.Digits.{has-bit, bits-length}
 
 -- a list by its 32 entries
 pub by-entries : {A : Type 0} (d : A) (l : List A) (at : ℕ → A) → length l ≡ 32 → ((g : ℕ) → g < 32 → getD l g d ≡ at g) → l ≡ upto 32 at

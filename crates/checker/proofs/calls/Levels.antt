@@ -17,10 +17,10 @@ use Rattle.meaning.specs.Calls.{Square, entry, Walk, stay, tail, wait, Flat, Is
 use Rattle.theory.proofs.Walks.{Narrow, join, then-tail, then-wait}
 use Rattle.theory.proofs.Reach.{clash}
 use Rattle.theory.proofs.Shapes.{Judged, as-flat, as-stacked, judged, depth-only, reached-only, no-deeper}
-use Rattle.checker.specs.OwnershipBits.{bitsOf}
-use Rattle.checker.specs.Bits.{onward, level, Some, Empty, Settles, ends, goes-on}
+use Rattle.checker.specs.Bits.{bitsOf}
+use Rattle.checker.specs.Levels.{onward, level, Some, Empty, Settles, ends, goes-on}
 use Rattle.checker.specs.Noting.{goes, Tells}
-use Rattle.checker.proofs.calls.Digits.{bits-length}
+use Rattle.checker.proofs.sets.Digits.{bits-length}
 use Rattle.checker.proofs.calls.Closing.{in-length, Closed, closure-closed, onward-length, onward-from, onward-to}
 
 goes-tail : (h : How) → goes false h ≡ true → h ≡ Tail

@@ -13,10 +13,10 @@ use Rattle.meaning.specs.Sets.{upto, zip, or, differ, except}
 use Rattle.meaning.specs.Calls.{Square, entry, called, row, Reaches}
 use Rattle.theory.proofs.Bools.{upto-length, upto-at, zip-at, zip-length}
 use Rattle.theory.proofs.Walks.{Narrow}
-use Rattle.checker.specs.OwnershipBits.{bitsOf}
-use Rattle.checker.specs.Bits.{member}
+use Rattle.checker.specs.Bits.{bitsOf}
+use Rattle.checker.specs.Levels.{member}
 use Rattle.checker.specs.Noting.{goes, Called, Tells}
-use Rattle.checker.proofs.calls.Digits.{bits-length}
+use Rattle.checker.proofs.sets.Digits.{bits-length}
 
 -- what is no call is not waited for
 pub no-wait : (h : How) → called h ≡ false → goes true h ≡ false

@@ -9,10 +9,10 @@ use Rattle.meaning.specs.declared.How.the-variants.{Never, Tail, Waits}
 use Rattle.meaning.specs.Choice.{pick}
 use Rattle.meaning.specs.Sets.{upto, zip, or}
 use Rattle.theory.proofs.Bools.{zip-at}
-use Rattle.checker.specs.OwnershipBits.{bitsOf}
-use Rattle.checker.specs.Bits.{filled}
+use Rattle.checker.specs.Bits.{bitsOf}
+use Rattle.checker.specs.Levels.{filled}
 use Rattle.checker.specs.Noting.{wayOf, rowOf}
-use Rattle.checker.proofs.calls.Digits.{bits-length}
+use Rattle.checker.proofs.sets.Digits.{bits-length}
 use Rattle.checker.proofs.calls.Filling.{fill-start, fill-in, fill-out}
 
 -- what one of two sets has is called

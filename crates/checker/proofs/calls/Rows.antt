@@ -19,9 +19,9 @@ use Rattle.standing.specs.Stands.{Stands, Each}
 use Rattle.standing.specs.Stands as T
 use Rattle.standing.specs.Table.{Declared}
 use Rattle.theory.proofs.Bools.{upto-at}
-use Rattle.checker.specs.OwnershipBits.{bitsOf}
+use Rattle.checker.specs.Bits.{bitsOf}
 use Rattle.checker.specs.Noting.{noteCall, noteCalls, waitsIn, tailsIn, rowOf}
-use Rattle.checker.proofs.calls.Digits.{or-bit, bits-length}
+use Rattle.checker.proofs.sets.Digits.{or-bit, bits-length}
 use Rattle.checker.proofs.calls.Halves.{by-entries}
 
 -- calls noted in a row

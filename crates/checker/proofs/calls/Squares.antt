@@ -18,7 +18,7 @@ use Rattle.meaning.specs.Machine.{body-of}
 use Rattle.meaning.specs.Calls.{calls, calls-branches, calls-from, call, Square, noted, fill, no-calls, square}
 use Rattle.standing.specs.Table.{tableOf, Declared}
 use Rattle.standing.proofs.Declaring.{read-declared}
-use Rattle.checker.specs.Bits.{filled}
+use Rattle.checker.specs.Levels.{filled}
 use Rattle.checker.specs.Noting.{noteCalls, waitsIn, tailsIn, rowOf, wordsOf, squareOf}
 use Rattle.checker.proofs.calls.Halves.{by-entries}
 use Rattle.checker.proofs.calls.Filling.{fill-start, fill-in, filled-length, filled-at, filled-past}

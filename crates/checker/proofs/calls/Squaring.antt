@@ -13,10 +13,10 @@ use Rattle.meaning.specs.Choice.{pick}
 use Rattle.meaning.specs.Sets.{upto, zip, or}
 use Rattle.meaning.specs.Calls.{Square, called}
 use Rattle.theory.proofs.Bools.{upto-length, upto-at, zip-at}
-use Rattle.checker.specs.OwnershipBits.{bitsOf}
-use Rattle.checker.specs.Bits.{filled}
+use Rattle.checker.specs.Bits.{bitsOf}
+use Rattle.checker.specs.Levels.{filled}
 use Rattle.checker.specs.Noting.{waitsIn, tailsIn, rowOf, squareOf, Led, Called}
-use Rattle.checker.proofs.calls.Digits.{bits-length}
+use Rattle.checker.proofs.sets.Digits.{bits-length}
 use Rattle.checker.proofs.calls.Halves.{by-entries}
 use Rattle.checker.proofs.calls.Filling.{fill-start, fill-in, fill-out, below-next}
 

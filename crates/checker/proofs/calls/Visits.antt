@@ -14,8 +14,8 @@ use Rattle.theory.proofs.Bools.{upto-length, upto-at, first-in, first-none}
 use Rattle.theory.proofs.Counting.{nowhere}
 use Rattle.theory.proofs.Walks.{Narrow, reaches-next}
 use Rattle.theory.proofs.Reach.{clash, reach-found, reach-all, reached}
-use Rattle.checker.specs.OwnershipBits.{bitsOf}
-use Rattle.checker.proofs.calls.Digits.{bits-length}
+use Rattle.checker.specs.Bits.{bitsOf}
+use Rattle.checker.proofs.sets.Digits.{bits-length}
 use Rattle.checker.proofs.calls.Closing.{Closed, Going, all-done, spent, visited, settled-now}
 use Rattle.checker.proofs.calls.Levels.{one, one-in}
 

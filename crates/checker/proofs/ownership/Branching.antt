@@ -24,7 +24,7 @@ use Rattle.standing.specs.Stands as stands
 use Rattle.standing.specs.Table.{Sorts, mode-byte}
 use Rattle.checker.specs.declared.reading.Read.{Read}
 use Rattle.checker.specs.declared.reading.Read.the-variants.{Next, Fault}
-use Rattle.checker.specs.OwnershipBits.{bitsOf}
+use Rattle.checker.specs.Bits.{bitsOf}
 use Rattle.checker.specs.Slots.{slotOf, slotsOf, bound-slot, kindAt}
 use Rattle.checker.specs.Ownership.{laidOf, boundOf, creditsOf, branchOf}
 use Rattle.checker.specs.Noting.{noteCalls}

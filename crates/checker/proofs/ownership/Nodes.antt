@@ -31,7 +31,7 @@ use Rattle.checker.specs.declared.slots.Want.the-variants as want
 use Rattle.checker.specs.declared.ownership.Taken.{Taken}
 use Rattle.checker.specs.declared.reading.Then.{Then}
 use Rattle.checker.specs.declared.reading.Then.the-variants.{Leaf, One, Two, Many, Fault}
-use Rattle.checker.specs.OwnershipBits.{bitsOf}
+use Rattle.checker.specs.Bits.{bitsOf}
 use Rattle.checker.specs.Slots.{kindOf, usedIn, slotsOf, spentBy, nowKind, unbound, bound-slot, wantOf, wantBack, testOf, kindAt, keptOf}
 use Rattle.checker.specs.Ownership.{fine, fault, onFine, takeKind, takeOf, takeAt, listOf, closeOf, giveOf, pairOf, makeOf, callOf, tailOf, takenOf, resultIn, kindBy, namedBy, pastOf, thenOf}
 use Rattle.checker.specs.Noting.{noteAt, noteCall, noteCalls}

@@ -15,9 +15,9 @@ use Rattle.meaning.specs.Sets.{first}
 use Rattle.meaning.specs.Ownership as tree
 use Rattle.checker.specs.declared.slots.Want.{Want}
 use Rattle.checker.specs.declared.slots.Want.the-variants as want
-use Rattle.checker.specs.OwnershipBits.{bitsOf}
+use Rattle.checker.specs.Bits.{bitsOf}
 use Rattle.checker.specs.Slots.{kindOf, usedIn, slotOf, slotsOf, usedKind, nowKind, usedSlot, spentBy, unbound, wantOf, spendsOf}
-use Rattle.checker.proofs.ownership.Bits.{bits-none, bits-length, or-bit}
+use Rattle.checker.proofs.sets.Digits.{bits-none, bits-length, or-bit}
 
 pub slots-length : (n : ℕ) (xs : List Slot) → length (slotsOf n xs) ≡ n
 unfolding slotsOf

@@ -23,10 +23,10 @@ use Rattle.standing.specs.Stands.{Listed}
 use Rattle.standing.specs.Table.{Sorts, Modes, mode-byte}
 use Rattle.checker.specs.declared.slots.Want.{Want}
 use Rattle.checker.specs.declared.ownership.Taken.{Taken}
-use Rattle.checker.specs.OwnershipBits.{bitsOf}
+use Rattle.checker.specs.Bits.{bitsOf}
 use Rattle.checker.specs.Slots.{kindOf, usedIn, slotOf, slotsOf, nowKind, spentBy, unbound, wantOf, spendsOf, testOf, wantAt}
 use Rattle.checker.specs.Ownership.{fine, fault, onFine, takeKind, takeOf, barsOf, listOf, closeOf}
-use Rattle.checker.proofs.ownership.Bits.{bits-length, bits-none, or-bit}
+use Rattle.checker.proofs.sets.Digits.{bits-length, bits-none, or-bit}
 use Rattle.checker.proofs.ownership.Spending.{slot-bound, slot-unbound, spent-at, leftOf, left-with}
 
 -- what was taken, as the definition tells it

@@ -18,10 +18,10 @@ use Rattle.meaning.specs.Ownership as tree
 use Rattle.standing.specs.Bytes.{byteAt}
 use Rattle.checker.specs.declared.slots.Want.{Want}
 use Rattle.checker.specs.declared.ownership.Taken.{Taken}
-use Rattle.checker.specs.OwnershipBits.{bitsOf}
+use Rattle.checker.specs.Bits.{bitsOf}
 use Rattle.checker.specs.Slots.{kindOf, usedIn, slotOf, slotsOf, usedKind, nowKind, spentBy, unbound, bound-slot, wantOf, spendsOf, testOf, wantAt, kindAt, keptOf}
 use Rattle.checker.specs.Ownership.{fine, fault, onFine, takeKind, takeOf, barsOf, listOf, closeOf, laidOf, boundOf}
-use Rattle.checker.proofs.ownership.Bits.{bits-none, bits-length}
+use Rattle.checker.proofs.sets.Digits.{bits-none, bits-length}
 use Rattle.checker.proofs.ownership.Spending.{slots-length, spent-none, spent-first, spent-at}
 
 -- ---- a slot's test

@@ -29,9 +29,9 @@ use Rattle.checker.proofs.ownership.take_named.Reads as take-named-read
 use Rattle.checker.proofs.ownership.takes_many.Reads as takes-many-reads
 use Rattle.checker.proofs.reading.read_branch.Reads as read-branch-reads
 use Rattle.checker.proofs.reading.read_node.Reads as read-node-reads
-use Rattle.checker.proofs.slots.lowest.Reads as lowest-reads
+use Rattle.checker.proofs.sets.lowest.Reads as lowest-reads
 use Rattle.checker.proofs.slots.used.Reads as used-reads
-use Rattle.checker.proofs.slots.without_lowest.Reads as without-lowest-reads
+use Rattle.checker.proofs.sets.without_lowest.Reads as without-lowest-reads
 use Rattle.checker.proofs.bodies.+check_branches+check_term+check_two.{statement}
 use Rattle.checker.proofs.bodies.+check_branches+check_term+check_two.Tie.{close}
 use native.Mathlib.Omega.{arith}
@@ -41,7 +41,7 @@ use mathlib.Core.Path.{_≡_, refl, sym, subst, ap, _∙_}
 use mathlib.Core.Logic.{⊎-elim}
 use lib.ListN.{length}
 use Rattle.checker.specs.declared.bodies.Plain.{Plain}
-use Rattle.checker.specs.OwnershipBits.{bitsOf}
+use Rattle.checker.specs.Bits.{bitsOf}
 use Rattle.checker.specs.Slots.{spentBy, keptOf}
 use Rattle.checker.specs.Ownership.{takenOf, kindBy}
 use Rattle.checker.specs.Noting.{noteAt}
@@ -341,22 +341,22 @@ check-term-loop-holds : (t : ℕ) → check-term-lts.Need-loop-holds (check-term
 check-term-loop-holds t c = refl
 
 check-term-lowest-requires : (t : ℕ) → check-term-lts.Need-lowest-requires (check-term-calls t) (check-term-at t) check-term.Post check-term-Inv-loop check-term-μ-loop
-check-term-lowest-requires t c κs = omega (arith, pred-is _ (c .loop-test .taken))
+check-term-lowest-requires t c κs = search needs
 
 check-term-mul-slot : (t : ℕ) → check-term-lts.Need-mul-slot (check-term-calls t) (check-term-at t) check-term.Post check-term-Inv-loop check-term-μ-loop
-check-term-mul-slot t c = omega (arith, c .lowest .ensures .1)
+check-term-mul-slot t c = omega (arith, c .lowest .ensures .2 (omega (arith, pred-is _ (c .before .loop-test .taken))))
 
 check-term-array-copy-out-slot : (t : ℕ) → check-term-lts.Need-array-copy-out-slot (check-term-calls t) (check-term-at t) check-term.Post check-term-Inv-loop check-term-μ-loop
-check-term-array-copy-out-slot t c = omega (arith, c .lowest .ensures .1)
+check-term-array-copy-out-slot t c = omega (arith, c .lowest .ensures .2 (omega (arith, pred-is _ (c .before .loop-test .taken))))
 
 check-term-used-requires : (t : ℕ) → check-term-lts.Need-used-requires (check-term-calls t) (check-term-at t) check-term.Post check-term-Inv-loop check-term-μ-loop
 check-term-used-requires t c κs = search needs
 
 check-term-mul-inner : (t : ℕ) → check-term-lts.Need-mul-inner (check-term-calls t) (check-term-at t) check-term.Post check-term-Inv-loop check-term-μ-loop
-check-term-mul-inner t c = omega (arith, c .before .before .lowest .ensures .1)
+check-term-mul-inner t c = omega (arith, c .before .before .lowest .ensures .2 (omega (arith, pred-is _ (c .before .before .before .loop-test .taken))))
 
 check-term-array-set-from-inner : (t : ℕ) → check-term-lts.Need-array-set-from-inner (check-term-calls t) (check-term-at t) check-term.Post check-term-Inv-loop check-term-μ-loop
-check-term-array-set-from-inner t c = omega (arith, c .before .before .lowest .ensures .1)
+check-term-array-set-from-inner t c = omega (arith, c .before .before .lowest .ensures .2 (omega (arith, pred-is _ (c .before .before .before .loop-test .taken))))
 
 check-term-without-lowest-requires : (t : ℕ) → check-term-lts.Need-without-lowest-requires (check-term-calls t) (check-term-at t) check-term.Post check-term-Inv-loop check-term-μ-loop
 check-term-without-lowest-requires t c κs = omega (arith, pred-is _ (c .before .before .before .loop-test .taken))
@@ -365,7 +365,7 @@ check-term-loop-less : (t : ℕ) → check-term-lts.Need-loop-less (check-term-c
 check-term-loop-less t c = omega (arith, c .without-lowest .ensures .1)
 
 check-term-loop-again : (t : ℕ) → check-term-lts.Need-loop-again (check-term-calls t) (check-term-at t) check-term.Post check-term-Inv-loop check-term-μ-loop
-check-term-loop-again t c = c .before .before .before .before .before .loop .inv ∙ kept-turn _ _ _ _ _ (c .before .before .before .lowest .ensures .0) (c .before .before .before .lowest .ensures .1) (c .without-lowest .ensures .0) (c .before .used .ensures)
+check-term-loop-again t c = c .before .before .before .before .before .loop .inv ∙ kept-turn _ _ _ _ _ (c .before .before .before .lowest .ensures .0) (c .before .before .before .lowest .ensures .2 (omega (arith, pred-is _ (c .before .before .before .before .loop-test .taken)))) (c .without-lowest .ensures .0) (c .before .used .ensures)
 
 check-term-bound-kind-requires : (t : ℕ) → check-term-lts.Need-bound-kind-requires (check-term-calls t) (check-term-at t) check-term.Post check-term-Inv-loop check-term-μ-loop
 check-term-bound-kind-requires t c κs = let l = met-low (node-met t (c .before .before .before .before .before .before .before .before .before .before .before .before .before .before .before .before .before .before .before)) in (l .0, l .2)

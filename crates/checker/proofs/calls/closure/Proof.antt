@@ -10,9 +10,9 @@ use native.Mathlib.Omega.{arith}
 use lib.ListN.{set}
 use borrow.Author.Tests.{le-leb, lt-leb}
 use Rattle.meaning.specs.Sets.{first, zip, or, except}
-use Rattle.checker.specs.OwnershipBits.{bitsOf}
-use Rattle.checker.specs.Bits.{member, visits, closure}
-use Rattle.checker.proofs.calls.Digits.{some}
+use Rattle.checker.specs.Bits.{bitsOf}
+use Rattle.checker.specs.Levels.{member, visits, closure}
+use Rattle.checker.proofs.sets.Digits.{some}
 
 stop : (n : ℕ) (row : ℕ → List Bool) (todo seen : List Bool) → 32 ≤ first todo → visits n row todo seen ≡ seen
 unfolding visits
@@ -47,9 +47,6 @@ lowest-requires c κs = search needs
 returns : tie.Need-returns Inv-loop μ-loop
 returns c = sym (c .before .before .before .loop .inv .1 ∙ stop _ _ _ _ (omega (arith, c .before .lowest .ensures .0)))
 
-cast-row : tie.Need-cast-row Inv-loop μ-loop
-cast-row c = search needs
-
 mul-row : tie.Need-mul-row Inv-loop μ-loop
 mul-row c = search needs
 
@@ -81,7 +78,7 @@ loop-again c =
     let seen = bitsOf 32 (c .before .before .before .before .before .before .before .before .loop .seen) in
     let i = c .before .before .before .before .before .before .lowest .result in
     let e : 32 - c .before .before .before .before .before .before .before .before .loop .k - 1 ≡ 32 - (c .before .before .before .before .before .before .before .before .loop .k + 1) = omega arith in
-    let t : bitsOf 32 (c .before .either .result) ≡ zip or (set todo (first todo) false) (except (row i) seen) = c .before .either .ensures ∙ ap₂ (zip or) (c .before .before .before .without-lowest .ensures) (c .before .before .except .ensures) in (
+    let t : bitsOf 32 (c .before .either .result) ≡ zip or (set todo (first todo) false) (except (row i) seen) = c .before .either .ensures ∙ ap₂ (zip or) (c .before .before .before .without-lowest .ensures .0) (c .before .before .except .ensures) in (
       omega arith,
       c .before .before .before .before .before .before .before .before .loop .inv .1 ∙ turn (32 - c .before .before .before .before .before .before .before .before .loop .k) row todo seen i (omega arith) (c .before .before .before .before .before .before .lowest .ensures .0) (c .before .before .before .before .before .if1 .left) ∙ rw (e, t, c .either2 .ensures),
     )
@@ -100,7 +97,6 @@ closure-spec =
     loop-holds
     lowest-requires
     returns
-    cast-row
     mul-row
     element-copy-out-row
     without-lowest-requires

@@ -11,9 +11,9 @@ use native.Mathlib.Numerals.{add-one}
 use lib.ListN.{getD}
 use Rattle.meaning.specs.Choice.{pick}
 use Rattle.meaning.specs.Sets.{zip, or}
-use Rattle.checker.specs.OwnershipBits.{bitsOf}
-use Rattle.checker.specs.Bits.{member, onward}
-use Rattle.checker.proofs.calls.Digits.{no-bits, bits-length, some}
+use Rattle.checker.specs.Bits.{bitsOf}
+use Rattle.checker.specs.Levels.{member, onward}
+use Rattle.checker.proofs.sets.Digits.{bits-none, bits-length, some}
 use Rattle.checker.proofs.calls.Members.{Passing, pass-start, is-member, unchanged, pass-next, passed, all-passed}
 
 onward-same : (row : ℕ → List Bool) (s : List Bool) (j : ℕ) → getD s j false ≡ false → onward (j + 1) row s ≡ onward j row s
@@ -32,7 +32,7 @@ abbrev μ-loop : tie.MeasureT-loop
 
 loop-holds : tie.Need-loop-holds Inv-loop μ-loop
 unfolding onward
-loop-holds c = (omega arith, 0, pass-start (bitsOf 32 (c .args .set)) (bits-length 32 (c .args .set)), no-bits)
+loop-holds c = (omega arith, 0, pass-start (bitsOf 32 (c .args .set)) (bits-length 32 (c .args .set)), bits-none 32)
 
 lowest-requires : tie.Need-lowest-requires Inv-loop μ-loop
 lowest-requires c κs = search needs
@@ -42,9 +42,6 @@ returns c =
     let s = bitsOf 32 (c .before .before .before .before .args .set) in
     let row = member (c .before .before .before .before .args .rows .now) in
     c .before .before .before .loop .inv .3 ∙ passed (c .before .before .before .loop .inv .2) (λ b. onward b row s) (λ j l. onward-same row s j) (omega (arith, c .before .lowest .ensures .0))
-
-cast-either : tie.Need-cast-either Inv-loop μ-loop
-cast-either c = search needs
 
 mul-either : tie.Need-mul-either Inv-loop μ-loop
 mul-either c = search needs
@@ -72,7 +69,7 @@ loop-again c =
     let p = c .before .before .before .before .before .before .loop .inv .2 in (
       omega arith,
       i + 1,
-      pass-next p i (c .before .before .before .before .lowest .ensures .0) (c .before .before .before .if1 .left) (bitsOf 32 (c .without-lowest .result)) (c .without-lowest .ensures),
+      pass-next p i (c .before .before .before .before .lowest .ensures .0) (c .before .before .before .if1 .left) (bitsOf 32 (c .without-lowest .result)) (c .without-lowest .ensures .0),
       c .before .either .ensures ∙ ap (zip or (row i)) (c .before .before .before .before .before .before .loop .inv .3 ∙ sym (unchanged p i (c .before .before .before .before .lowest .ensures .0) (c .before .before .before .if1 .left) (λ b. onward b row s) (λ j l. onward-same row s j)))
           ∙ sym (onward-more row s i (is-member p i (c .before .before .before .before .lowest .ensures .0) (c .before .before .before .if1 .left))),
     )
@@ -89,7 +86,6 @@ onward-spec =
     loop-holds
     lowest-requires
     returns
-    cast-either
     mul-either
     element-copy-out-either
     either-requires

@@ -7,8 +7,8 @@ use mathlib.Core.Path.{_≡_, sym, ap₂, _∙_, subst}
 use native.Mathlib.Omega.{arith}
 use lib.ListN.{set}
 use Rattle.meaning.specs.Sets.{zip, or}
-use Rattle.checker.specs.OwnershipBits.{bitsOf}
-use Rattle.checker.proofs.calls.Digits.{bits-length, some}
+use Rattle.checker.specs.Bits.{bitsOf}
+use Rattle.checker.proofs.sets.Digits.{bits-length, some}
 use Rattle.checker.proofs.calls.Members.{Passing, pass-start, is-member, unchanged, pass-next, passed, all-passed}
 use Rattle.checker.proofs.calls.Putting.{row-to, row-start, row-same, row-more, row-all}
 
@@ -39,9 +39,6 @@ returns c =
 way-requires : tie.Need-way-requires Inv-loop μ-loop
 way-requires c κs = search needs
 
-cast-out : tie.Need-cast-out Inv-loop μ-loop
-cast-out c = search needs
-
 array-set-from-out : tie.Need-array-set-from-out Inv-loop μ-loop
 array-set-from-out c = search needs
 
@@ -65,7 +62,7 @@ loop-again c =
     let q = I .3 ∙ sym (unchanged (I .2) i e h (row-to waits tails) (row-same waits tails)) in (
       omega arith,
       i + 1,
-      pass-next (I .2) i e h (bitsOf 32 (c .without-lowest .result)) (c .without-lowest .ensures),
+      pass-next (I .2) i e h (bitsOf 32 (c .without-lowest .result)) (c .without-lowest .ensures .0),
       ap₂ (λ l x. set l i x) q (c .before .way .ensures) ∙ row-more waits tails i h (is-member (I .2) i e h),
     )
 
@@ -87,7 +84,6 @@ row-of-spec =
     lowest-requires
     returns
     way-requires
-    cast-out
     array-set-from-out
     without-lowest-requires
     add-k

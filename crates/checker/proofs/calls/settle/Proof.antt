@@ -6,10 +6,10 @@ use Prim.Native.Nat.{ℕ, _-_, _≤_, _<_, _^_}
 use mathlib.Core.Path.{_≡_, sym, ap, _∙_, subst}
 use native.Mathlib.Omega.{arith}
 use native.Mathlib.Numerals.{add-one}
-use Rattle.checker.specs.OwnershipBits.{bitsOf}
-use Rattle.checker.specs.Bits.{member, Some, Empty, ends, goes-on}
-use Rattle.checker.specs.Bits as depths
-use Rattle.checker.proofs.calls.Digits.{some-member, no-member}
+use Rattle.checker.specs.Bits.{bitsOf}
+use Rattle.checker.specs.Levels.{member, Some, Empty, ends, goes-on}
+use Rattle.checker.specs.Levels as depths
+use Rattle.checker.proofs.sets.Digits.{some-member, no-member}
 use Rattle.checker.proofs.calls.Filling.{below-next}
 
 abbrev Inv-loop : tie.InvT-loop

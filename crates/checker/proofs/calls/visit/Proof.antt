@@ -7,7 +7,7 @@ use mathlib.Core.Path.{_≡_, ap₂, _∙_}
 use native.Mathlib.Omega.{arith}
 use lib.ListN.{length, getD, set, length-set}
 use Rattle.meaning.specs.Sets.{except}
-use Rattle.checker.proofs.calls.Digits.{some}
+use Rattle.checker.proofs.sets.Digits.{some}
 use Rattle.checker.proofs.calls.Masks.{Masked, leads, tails-left, masked-here, masked-other, tells}
 use Rattle.checker.proofs.calls.Visits.{Visiting, visit-start, visit-next, visit-stop, visit-spent}
 
@@ -29,17 +29,11 @@ returns c =
     let v = visit-stop (c .before .before .before .before .args .t1) narrow (c .before .before .before .loop .inv .3) (c .before .lowest .result) (c .before .lowest .ensures .0) (c .if1 .taken) in
     (tells (c .before .before .before .before .args .t1) narrow (c .before .before .before .loop .tails) (c .before .before .before .loop .waits) (v .good), v .count)
 
-cast-row : tie.Need-cast-row Inv-loop μ-loop
-cast-row c = search needs
-
 mul-row : tie.Need-mul-row Inv-loop μ-loop
 mul-row c = search needs
 
 array-copy-out-row : tie.Need-array-copy-out-row Inv-loop μ-loop
 array-copy-out-row c = search needs
-
-cast-calls : tie.Need-cast-calls Inv-loop μ-loop
-cast-calls c = search needs
 
 mul-calls : tie.Need-mul-calls Inv-loop μ-loop
 mul-calls c = search needs
@@ -50,9 +44,6 @@ element-copy-out-calls c = search needs
 waiting-requires : tie.Need-waiting-requires Inv-loop μ-loop
 waiting-requires c κs = c .before .before .before .before .before .before .pre .0 .led (c .before .before .before .lowest .result) (c .before .before .if1 .left)
 
-cast-waits : tie.Need-cast-waits Inv-loop μ-loop
-cast-waits c = search needs
-
 mul-waits : tie.Need-mul-waits Inv-loop μ-loop
 mul-waits c = search needs
 
@@ -61,9 +52,6 @@ element-write-waits c = search needs
 
 except-requires : tie.Need-except-requires Inv-loop μ-loop
 except-requires c κs = search needs
-
-cast-tails : tie.Need-cast-tails Inv-loop μ-loop
-cast-tails c = search needs
 
 mul-tails : tie.Need-mul-tails Inv-loop μ-loop
 mul-tails c = search needs
@@ -105,7 +93,7 @@ loop-again c =
       length-set waits i w ∙ c .before .before .before .before .before .before .before .before .before .before .before .loop .inv .2,
       visit-next square (called .narrow) (c .before .before .before .before .before .before .before .before .before .before .before .loop .inv .3) (Masked square (set tails i t) (set waits i w)) i
           (getD (c .before .before .before .before .before .before .before .before .before .before .before .before .args .called .now) i 0) (c .before .before .before .without-lowest .result) (c .before .before .except2 .result) (c .before .either .result) (c .either2 .result) (c .before .before .before .before .before .before .before .before .before .lowest .ensures .0) l
-          row (c .before .before .before .without-lowest .ensures) (c .before .before .except2 .ensures) (c .before .either .ensures) (c .either2 .ensures)
+          row (c .before .before .before .without-lowest .ensures .0) (c .before .before .except2 .ensures) (c .before .either .ensures) (c .either2 .ensures)
           (masked-here square tails waits i t w (omega (arith, c .before .before .before .before .before .before .before .before .before .before .before .loop .inv .1)) (omega (arith, c .before .before .before .before .before .before .before .before .before .before .before .loop .inv .2)) (c .before .before .before .before .except .ensures ∙ ap₂ except row (c .before .before .before .before .before .waiting .ensures) ∙ tails-left square i) (c .before .before .before .before .before .waiting .ensures)) (masked-other square tails waits i t w),
     )
 
@@ -124,18 +112,14 @@ visit-spec =
     loop-holds
     lowest-requires
     returns
-    cast-row
     mul-row
     array-copy-out-row
-    cast-calls
     mul-calls
     element-copy-out-calls
     waiting-requires
-    cast-waits
     mul-waits
     element-write-waits
     except-requires
-    cast-tails
     mul-tails
     element-write-tails
     without-lowest-requires

@@ -14,10 +14,10 @@ use Rattle.meaning.specs.declared.How.the-variants.{Never}
 use Rattle.meaning.specs.Sets.{upto}
 use Rattle.meaning.specs.Calls.{called}
 use Rattle.theory.proofs.Bools.{upto-at}
-use Rattle.checker.specs.OwnershipBits.{bitsOf}
-use Rattle.checker.specs.Bits.{filled}
+use Rattle.checker.specs.Bits.{bitsOf}
+use Rattle.checker.specs.Levels.{filled}
 use Rattle.checker.specs.Noting.{goes, Led}
-use Rattle.checker.proofs.calls.Digits.{no-bits, bits-length, some}
+use Rattle.checker.proofs.sets.Digits.{bits-none, bits-length, some}
 use Rattle.checker.proofs.calls.Filling.{fill-start, fill-in, fill-out}
 use Rattle.checker.proofs.calls.Masks.{no-wait}
 use Rattle.checker.proofs.calls.Members.{Passing, pass-start, unchanged, pass-next, passed, all-passed}
@@ -40,7 +40,7 @@ abbrev μ-loop : tie.MeasureT-loop
 μ-loop called row out₀ left₀ k₀ out left k = 32 - k
 
 loop-holds : tie.Need-loop-holds Inv-loop μ-loop
-loop-holds c = (omega arith, 0, pass-start (bitsOf 32 (c .args .called)) (bits-length 32 (c .args .called)), no-bits ∙ fill-start false (waits (c .args .t1)))
+loop-holds c = (omega arith, 0, pass-start (bitsOf 32 (c .args .called)) (bits-length 32 (c .args .called)), bits-none 32 ∙ fill-start false (waits (c .args .t1)))
 
 lowest-requires : tie.Need-lowest-requires Inv-loop μ-loop
 lowest-requires c κs = search needs
@@ -49,9 +49,6 @@ returns : tie.Need-returns Inv-loop μ-loop
 returns c =
     let row = c .before .before .before .before .args .t1 in
     c .before .before .before .loop .inv .3 ∙ passed (c .before .before .before .loop .inv .2) (λ b. filled false b (waits row)) (same row (c .before .before .before .before .args .called) (c .before .before .before .before .pre)) (omega (arith, c .before .lowest .ensures .0)) ∙ whole (waits row)
-
-cast-how : tie.Need-cast-how Inv-loop μ-loop
-cast-how c = search needs
 
 array-copy-out-how : tie.Need-array-copy-out-how Inv-loop μ-loop
 array-copy-out-how c = search needs
@@ -81,9 +78,9 @@ loop-again c =
     let b = sym (c .before .before .is-waiting .ensures) in (
       omega arith,
       i + 1,
-      pass-next p i (c .before .before .before .before .before .lowest .ensures .0) h (bitsOf 32 (c .without-lowest .result)) (c .without-lowest .ensures),
+      pass-next p i (c .before .before .before .before .before .lowest .ensures .0) h (bitsOf 32 (c .without-lowest .result)) (c .without-lowest .ensures .0),
       ⊎-elim
-          (λ w. ap (bitsOf 32) (w .2) ∙ w .1 .ensures ∙ ap (λ l. set l i true) q ∙ fill-in false i (waits row) true h (b ∙ w .0 .taken))
+          (λ w. ap (bitsOf 32) (w .2) ∙ w .1 .ensures .1 ∙ ap (λ l. set l i true) q ∙ fill-in false i (waits row) true h (b ∙ w .0 .taken))
           (λ w. ap (bitsOf 32) (w .1) ∙ q ∙ fill-out false i (waits row) h (b ∙ w .0 .left))
           (c .before .if2 .came),
     )
@@ -100,7 +97,6 @@ waiting-spec =
     loop-holds
     lowest-requires
     returns
-    cast-how
     array-copy-out-how
     is-waiting-requires
     with-requires

@@ -2,7 +2,7 @@
 use borrow.Author.Needs.{needs}
 use Rattle.checker.proofs.ownership.sees.Statement.{statement}
 use Rattle.checker.proofs.ownership.sees.Tie as tie
-use Rattle.checker.proofs.ownership.Bits.{has-bit}
+use Rattle.checker.proofs.sets.Digits.{has-bit}
 
 shr-result : tie.Need-shr-result
 shr-result c = search needs

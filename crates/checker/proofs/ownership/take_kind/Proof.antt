@@ -30,7 +30,7 @@ fine-requires : tie.Need-fine-requires
 fine-requires c κs = search needs
 
 returns-2 : tie.Need-returns-2
-returns-2 c = rw (c .fine .ensures, c .before .with .ensures) (kind-spends _ _ _ _ _ _ _ _ _ (c .before .before .before .before .before .test .ensures) (c .before .before .before .before .before .before .current .ensures) (c .before .before .before .before .before .before .before .has .ensures) (c .before .before .before .before .if1 .left) _ (c .before .before .before .spends .ensures) (c .before .before .if2 .taken))
+returns-2 c = rw (c .fine .ensures, c .before .with .ensures .0) (kind-spends _ _ _ _ _ _ _ _ _ (c .before .before .before .before .before .test .ensures) (c .before .before .before .before .before .before .current .ensures) (c .before .before .before .before .before .before .before .has .ensures) (c .before .before .before .before .if1 .left) _ (c .before .before .before .spends .ensures) (c .before .before .if2 .taken))
 
 fine-requires-2 : tie.Need-fine-requires-2
 fine-requires-2 c κs = search needs

@@ -77,7 +77,7 @@ loop-less : tie.Need-loop-less Inv-loop μ-loop
 loop-less c = omega arith
 
 loop-again : tie.Need-loop-again Inv-loop μ-loop
-loop-again c = (omega arith, list-again _ _ _ _ _ _ _ _ _ _ _ _ (c .before .before .before .before .before .before .before .before .before .before .before .loop .inv .1) (c .before .before .before .before .before .before .before .before .before .before .loop-test .taken) (c .before .before .before .before .before .before .before .before .before .byte .ensures .0) _ _ _ _ (c .before .before .before .before .before .before .before .before .if1 .left) (c .before .before .before .before .before .before .before .byte2 .ensures .0) (c .before .before .before .before .before .before .want-of .ensures) (c .before .before .before .before .bars .ensures) (c .before .before .before .take-kind .ensures) (c .before .if2 .left) _ (c .with .ensures))
+loop-again c = (omega arith, list-again _ _ _ _ _ _ _ _ _ _ _ _ (c .before .before .before .before .before .before .before .before .before .before .before .loop .inv .1) (c .before .before .before .before .before .before .before .before .before .before .loop-test .taken) (c .before .before .before .before .before .before .before .before .before .byte .ensures .0) _ _ _ _ (c .before .before .before .before .before .before .before .before .if1 .left) (c .before .before .before .before .before .before .before .byte2 .ensures .0) (c .before .before .before .before .before .before .want-of .ensures) (c .before .before .before .before .bars .ensures) (c .before .before .before .take-kind .ensures) (c .before .if2 .left) _ (c .with .ensures .0))
 
 fine-requires : tie.Need-fine-requires Inv-loop μ-loop
 fine-requires c κs = search needs

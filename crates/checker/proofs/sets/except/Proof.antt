@@ -1,9 +1,9 @@
--- `calls::except` meets its contract. Assumes nothing.
-use Rattle.checker.proofs.calls.except.Statement.{statement}
-use Rattle.checker.proofs.calls.except.Tie as tie
-use Rattle.checker.proofs.calls.Digits.{or-bits, xor-bits}
+-- `checker::sets::except` meets its contract. Assumes nothing.
+use Rattle.checker.proofs.sets.except.Statement.{statement}
+use Rattle.checker.proofs.sets.except.Tie as tie
+use Rattle.checker.proofs.sets.Digits.{or-bits, xor-bits}
 use mathlib.Core.Path.{ap, _∙_}
-use Rattle.checker.specs.OwnershipBits.{bitsOf}
+use Rattle.checker.specs.Bits.{bitsOf}
 use Rattle.meaning.specs.Sets.{zip, differ}
 
 returns : tie.Need-returns

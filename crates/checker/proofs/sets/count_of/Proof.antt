@@ -1,7 +1,7 @@
--- `calls::count_of` meets its contract. Assumes nothing.
-use Rattle.checker.proofs.calls.count_of.Statement.{statement}
-use Rattle.checker.proofs.calls.count_of.Tie as tie
-use Rattle.checker.proofs.calls.Digits.{ones-bits}
+-- `checker::sets::count_of` meets its contract. Assumes nothing.
+use Rattle.checker.proofs.sets.count_of.Statement.{statement}
+use Rattle.checker.proofs.sets.count_of.Tie as tie
+use Rattle.checker.proofs.sets.Digits.{ones-bits}
 use lib.Count.{ones-le}
 use native.Mathlib.Omega.{arith}
 

@@ -1,4 +1,4 @@
--- The machine's operations on a number, on the list of its digits. Assumes nothing.
+-- The machine's operations on a number, on the list of its digits: the set that they stand for. Assumes nothing.
 use Prim.Native.Nat.{ℕ, zero, suc, _+_, _-_, _*_, _/_, _%_, _^_, _<_, max, min}
 use mathlib.Core.Path.{_≡_, refl, sym, ap, _∙_, subst}
 use mathlib.Core.Logic.{_⊎_, inl, inr}
@@ -9,12 +9,12 @@ use native.Mathlib.Nat.{pow-suc, le-of-suc-le-suc, not-suc-le-zero}
 use lib.ListN.{length, set, getD, replicate}
 use lib.Dec.{eqb, lit<}
 use lib.Pow.{shr-shr}
-use lib.Bits.{bitOr, bitAnd, bitXor, or-step, and-step, xor-step, or-zero-r, and-self}
+use lib.Bits.{bitOr, bitAnd, bitXor, or-step, and-step, xor-step, or-zero-r, and-self, and-le-r}
 use lib.Bits as bits
 use lib.Count.{trailingZeros, ones, ones-step, ones-ones}
 use Rattle.theory.proofs.Bools.{first-in}
-use Rattle.checker.specs.OwnershipBits.{bitsOf}
-use Rattle.checker.specs.Bits.{Some, Empty}
+use Rattle.checker.specs.Bits.{bitsOf}
+use Rattle.checker.specs.Levels.{Some, Empty}
 use Rattle.meaning.specs.Sets.{first, how-many, zip, or, differ}
 
 -- a digit is 0 or 1
@@ -91,6 +91,9 @@ unfolding bitsOf first
 and-low zero x h = refl
 and-low (suc d) x h = and-low-step d x h (λ p. and-low d (x / 2) p) (digit x)
 
+pub and-less : (x : ℕ) → 0 < x → bitAnd x (x - 1) < x
+and-less x h = omega (arith, and-le-r x (x - 1))
+
 ones-bits-step : (d x : ℕ) → ones (x / 2) ≡ how-many (bitsOf d (x / 2)) → (x % 2 ≡ 0) ⊎ (x % 2 ≡ 1) → ones x ≡ how-many (bitsOf (suc d) x)
 unfolding bitsOf how-many
 ones-bits-step d x ih (inl e) = rw e (omega (arith, ones-step x))
@@ -135,9 +138,10 @@ unfolding zip
 xor-bits zero x y = rw (bits-zero (bitXor x y), bits-zero x)
 xor-bits (suc d) x y = rw (xor-cons d x y, bits-suc d x, bits-suc d y, digits-as bits.differ differ refl refl refl refl x y, xor-bits d (x / 2) (y / 2))
 
-pub no-bits : bitsOf 32 0 ≡ replicate 32 false
+pub bits-none : (d : ℕ) → bitsOf d 0 ≡ replicate d false
 unfolding bitsOf
-no-bits = refl
+bits-none zero = refl
+bits-none (suc d) = ap (λ (l : List Bool). false ∷ l) (bits-none d)
 
 pub bits-length : (d x : ℕ) → length (bitsOf d x) ≡ d
 unfolding bitsOf
@@ -150,7 +154,7 @@ unfolding bitsOf first
 some-step d x h ih (inl e) = rw e (let k = ih (omega arith) in omega arith)
 some-step d x h ih (inr e) = rw e (omega arith)
 
-some-bit : (d x : ℕ) → x < 2 ^ d → 0 < x → first (bitsOf d x) < d
+pub some-bit : (d x : ℕ) → x < 2 ^ d → 0 < x → first (bitsOf d x) < d
 some-bit zero x l h = absurd (omega arith)
 some-bit (suc d) x l h = some-step d x h (λ k. some-bit d (x / 2) (omega (arith, pow-suc 2 d)) k) (digit x)
 
@@ -158,7 +162,7 @@ pub some-member : (x : ℕ) → x < 2 ^ 32 → (x ≡ 0 → ⊥) → Some (bitsO
 some-member x l n = let h : first (bitsOf 32 x) < 32 = some-bit 32 x l (omega (arith, n)) in (first (bitsOf 32 x), first-in (bitsOf 32 x) (omega (arith, bits-length 32 x)))
 
 pub no-member : Empty (bitsOf 32 0)
-no-member i = subst (λ l. getD l i false ≡ false) (sym no-bits) (go 32 i)
+no-member i = subst (λ l. getD l i false ≡ false) (sym (bits-none 32)) (go 32 i)
   where
     go : (n j : ℕ) → getD (replicate n false) j false ≡ false
     go zero j = refl

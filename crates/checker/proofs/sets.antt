@@ -1,0 +1,2 @@
+-- The laws behind the module `sets`.
+pub mod Digits
