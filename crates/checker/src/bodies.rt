@@ -157,14 +157,14 @@ fn note(file: &[u8], at: usize, m: usize, calls: u64) -> u64
     }
 }
 
-// Notes a fault of the ownership check, if its number is not 0 and it is the first.
-fn note_fault(fault: &mut u32, fault_at: &mut usize, number: u32, place: usize)
-    ensures { λ _. ⌜ (now (fault .exit) ≡ faultAfter (now (fault .entry)) number) × (now («fault_at» .exit) ≡ placeAfter (now (fault .entry)) (now («fault_at» .entry)) number place) ⌝ }
+// Notes a fault of the ownership check, its number and its place, if the number is not 0 and it is the first.
+fn note_fault(fault: &mut u32, place: &mut usize, number: u32, at: usize)
+    ensures { λ _. ⌜ (now (fault .exit) ≡ faultAfter (now (fault .entry)) number) × (now (place .exit) ≡ placeAfter (now (fault .entry)) (now (place .entry)) number at) ⌝ }
 {
     if number != 0 {
         if *fault == 0 {
             *fault = number;
-            *fault_at = place;
+            *place = at;
         }
     }
 }
@@ -180,123 +180,82 @@ fn check_term(
     p: Path,
     calls: &mut u64,
     fault: &mut u32,
-    fault_at: &mut usize,
+    place: &mut usize,
 ) -> Read
     requires { ⌜ Passable (now file) (now decl) start p ⌝ }
-    ensures { λ r. ⌜ Passed (now (file .entry)) (now (decl .entry)) start result slots p (now (calls .entry)) (now (fault .entry)) (now («fault_at» .entry)) (now (calls .exit)) (now (fault .exit)) (now («fault_at» .exit)) r ⌝ }
+    ensures { λ r. ⌜ Passed (now (file .entry)) (now (decl .entry)) start result slots p (now (calls .entry)) (now (fault .entry)) (now (place .entry)) (now (calls .exit)) (now (fault .exit)) (now (place .exit)) r ⌝ }
 {
     let mut inner = slots;
     let mut at = start;
-    let mut bound = p.slots;
-    let mut nodes = p.nodes;
+    let mut path = p;
     if plain_stands(file, start) {
         let row = plain_row(file, start, slots, p);
         inner = row.slots;
         at = row.at;
-        bound = row.path.slots;
-        nodes = row.path.nodes;
+        path = row.path;
     }
-    let n = read_node(
-        file,
-        decl,
-        at,
-        Path {
-            slots: bound,
-            nodes,
-        },
-    );
+    let n = read_node(file, decl, at, path);
     let then = n.then;
-    let more = n.path.slots;
-    let path = Path {
-        slots: more,
-        nodes: n.path.nodes,
-    };
     match then {
-        Then::Fault(number, place) => {
-            return Read::Fault(number, place);
+        Then::Fault(number, there) => {
+            return Read::Fault(number, there);
         }
         _ => {}
     }
+    let bound = path.slots;
+    let after = n.path;
     let m = mark(file, at);
-    let i = slot_index(file, first_place(m, at));
-    let j = slot_index(file, second_place(m, at));
-    let one = inner[i];
-    let two = inner[j];
+    let one_at = first_place(m, at);
+    let two_at = second_place(m, at);
+    let one = inner[slot_index(file, one_at)];
+    let two = inner[slot_index(file, two_at)];
     let first = one.kind;
     let second = two.kind;
-    let mut t = take_named(
-        file,
-        m,
-        first_place(m, at),
-        second_place(m, at),
-        first,
-        second,
-        bound,
-    );
+    let mut t = take_named(file, m, one_at, two_at, first, second, bound);
     if takes_many(m) {
         t = take_many(file, decl, at, m, result, inner, bound);
         *calls = note(file, at, m, *calls);
     }
-    note_fault(fault, fault_at, t.number, t.place);
+    note_fault(fault, place, t.number, t.place);
     let mut todo = t.spent;
     while todo != 0 {
         let k = lowest(todo);
         let slot = inner[k];
         let was = slot.kind;
-        let gone = used(was);
         inner[k] = Slot {
-            kind: gone,
+            kind: used(was),
             place: slot.place,
         };
         todo = without_lowest(todo);
     }
-    if bound < more {
-        let kind = bound_kind(file, decl, at, m);
+    if bound < after.slots {
         inner[bound] = Slot {
-            kind,
+            kind: bound_kind(file, decl, at, m),
             place: at as u16,
         };
     }
     match then {
         Then::Leaf(next) => Read::Next(next),
-        Then::One(next) => check_term(
-            file,
-            decl,
-            next,
-            result,
-            inner,
-            path,
-            calls,
-            fault,
-            fault_at,
-        ),
-        Then::Two(next) => check_two(
-            file,
-            decl,
-            next,
-            result,
-            inner,
-            path,
-            calls,
-            fault,
-            fault_at,
-        ),
-        Then::Many(next, count, credit) => {
-            check_branches(
-                file,
-                decl,
-                next,
-                count,
-                credit,
-                result,
-                inner,
-                path,
-                calls,
-                fault,
-                fault_at,
-            )
+        Then::One(next) => {
+            check_term(file, decl, next, result, inner, after, calls, fault, place)
         }
-        Then::Fault(number, place) => Read::Fault(number, place),
+        Then::Two(next) => {
+            check_two(file, decl, next, result, inner, after, calls, fault, place)
+        }
+        Then::Many(next, count, credit) => check_branches(
+            file,
+            decl,
+            next,
+            count,
+            credit,
+            result,
+            inner,
+            after,
+            calls,
+            fault,
+            place,
+        ),
+        Then::Fault(number, there) => Read::Fault(number, there),
     }
 }
 
@@ -310,16 +269,16 @@ fn check_two(
     p: Path,
     calls: &mut u64,
     fault: &mut u32,
-    fault_at: &mut usize,
+    place: &mut usize,
 ) -> Read
     requires { ⌜ Passable (now file) (now decl) start p ⌝ }
-    ensures { λ r. ⌜ PassedTwo (now (file .entry)) (now (decl .entry)) start result slots p (now (calls .entry)) (now (fault .entry)) (now («fault_at» .entry)) (now (calls .exit)) (now (fault .exit)) (now («fault_at» .exit)) r ⌝ }
+    ensures { λ r. ⌜ PassedTwo (now (file .entry)) (now (decl .entry)) start result slots p (now (calls .entry)) (now (fault .entry)) (now (place .entry)) (now (calls .exit)) (now (fault .exit)) (now (place .exit)) r ⌝ }
 {
-    match check_term(file, decl, start, result, slots, p, calls, fault, fault_at) {
+    match check_term(file, decl, start, result, slots, p, calls, fault, place) {
         Read::Next(second) => {
-            check_term(file, decl, second, result, slots, p, calls, fault, fault_at)
+            check_term(file, decl, second, result, slots, p, calls, fault, place)
         }
-        Read::Fault(number, place) => Read::Fault(number, place),
+        Read::Fault(number, there) => Read::Fault(number, there),
     }
 }
 
@@ -335,45 +294,35 @@ fn check_branches(
     p: Path,
     calls: &mut u64,
     fault: &mut u32,
-    fault_at: &mut usize,
+    place: &mut usize,
 ) -> Read
     requires { ⌜ Passable (now file) (now decl) start p × (credit ≤ 1) ⌝ }
-    ensures { λ r. ⌜ PassedAll (now (file .entry)) (now (decl .entry)) start count credit result slots p (now (calls .entry)) (now (fault .entry)) (now («fault_at» .entry)) (now (calls .exit)) (now (fault .exit)) (now («fault_at» .exit)) r ⌝ }
+    ensures { λ r. ⌜ PassedAll (now (file .entry)) (now (decl .entry)) start count credit result slots p (now (calls .entry)) (now (fault .entry)) (now (place .entry)) (now (calls .exit)) (now (fault .exit)) (now (place .exit)) r ⌝ }
 {
     let mut at = start;
     let mut left = count;
     let mut seen: u64 = 0;
     while left != 0 {
         match read_branch(file, decl, at, credit, p.slots) {
-            Read::Fault(number, place) => {
-                return Read::Fault(number, place);
+            Read::Fault(number, there) => {
+                return Read::Fault(number, there);
             }
             Read::Next(more) => {
                 let c = byte(file, at + 2);
-                note_fault(fault, fault_at, repeats(seen, c), at + 2);
+                note_fault(fault, place, repeats(seen, c), at + 2);
                 let inner = branch_slots(file, decl, c, at, credit, slots, p.slots);
                 let path = Path {
                     slots: more,
                     nodes: p.nodes,
                 };
-                match check_term(
-                    file,
-                    decl,
-                    at + 3,
-                    result,
-                    inner,
-                    path,
-                    calls,
-                    fault,
-                    fault_at,
-                ) {
+                match check_term(file, decl, at + 3, result, inner, path, calls, fault, place) {
                     Read::Next(next) => {
                         seen = seeing(seen, c);
                         at = next;
                         left -= 1;
                     }
-                    Read::Fault(number, place) => {
-                        return Read::Fault(number, place);
+                    Read::Fault(number, there) => {
+                        return Read::Fault(number, there);
                     }
                 }
             }
@@ -390,13 +339,13 @@ fn check_body(
     f: usize,
     calls: &mut u64,
     fault: &mut u32,
-    fault_at: &mut usize,
+    place: &mut usize,
 ) -> Read
     requires { ⌜ Passable (now file) (now decl) at (path 0 0) × (f < 32) × (knownCount (now decl) f ≤ 8) ⌝ }
-    ensures { λ r. ⌜ PassedBody (now (file .entry)) (now (decl .entry)) at f (now (calls .entry)) (now (fault .entry)) (now («fault_at» .entry)) (now (calls .exit)) (now (fault .exit)) (now («fault_at» .exit)) r ⌝ }
+    ensures { λ r. ⌜ PassedBody (now (file .entry)) (now (decl .entry)) at f (now (calls .entry)) (now (fault .entry)) (now (place .entry)) (now (calls .exit)) (now (fault .exit)) (now (place .exit)) r ⌝ }
 {
     match expect_mark(file, at, BD) {
-        Read::Fault(number, place) => Read::Fault(number, place),
+        Read::Fault(number, there) => Read::Fault(number, there),
         Read::Next(start) => {
             let n = params(decl, f);
             let fresh = fresh_slots();
@@ -411,7 +360,7 @@ fn check_body(
                 Path { slots: n, nodes: 0 },
                 calls,
                 fault,
-                fault_at,
+                place,
             )
         }
     }
@@ -431,34 +380,34 @@ fn check_bodies(
     let mut f: usize = 0;
     let mut at: usize = start;
     let mut fault: u32 = 0;
-    let mut fault_at: usize = 0;
+    let mut place: usize = 0;
     while f < count {
         let mut called: u64 = 0;
-        match check_body(file, decl, at, f, &mut called, &mut fault, &mut fault_at) {
+        match check_body(file, decl, at, f, &mut called, &mut fault, &mut place) {
             Read::Next(next) => {
                 decl[96 + f] = (at + 2) as u32;
                 calls[f] = called;
                 f += 1;
                 at = next;
             }
-            Read::Fault(number, place) => {
+            Read::Fault(number, there) => {
                 return Reached {
                     count,
-                    at: place,
+                    at: there,
                     number,
                 };
             }
         }
     }
     match read_end(file, at) {
-        Read::Fault(number, place) => Reached {
+        Read::Fault(number, there) => Reached {
             count,
-            at: place,
+            at: there,
             number,
         },
         Read::Next(end) => Reached {
             count,
-            at: fault_at,
+            at: place,
             number: fault,
         },
     }

@@ -12,7 +12,6 @@ use Rattle.meaning.specs.Choice.{pick}
 use Rattle.meaning.specs.declared.Answer.{Answer}
 use Rattle.meaning.specs.Syntax.{File}
 use Rattle.meaning.specs.Outcome.{Outcome, ok, refuse}
-use Rattle.meaning.specs.Verdict.{accepted}
 use Rattle.meaning.specs.Machine.{function-of, run}
 use Rattle.meaning.specs.InPlace.{begins}
 use Rattle.meaning.specs.Start.{start}

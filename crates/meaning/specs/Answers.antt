@@ -1,5 +1,5 @@
 -- The answers as the code gives them, with document 01's number and values for each case; what `check` and `run` promise. Assumes nothing.
-use Prim.Native.Nat.{ℕ, zero}
+use Prim.Native.Nat.{ℕ}
 use mathlib.Core.Bool.{_&&_}
 use mathlib.Core.List.{List, _++_}
 use lib.ListN.{length, drop, replicate}

@@ -1,6 +1,6 @@
 -- Document 01's proved cases, P1 to P14, P11's start with budget 0 (M-103), and the ends of AR's range (M-101): one table, one theorem about the definitions over it.
 -- Assumes nothing.
-use Prim.Native.Nat.{ℕ, _+_}
+use Prim.Native.Nat.{ℕ}
 use mathlib.Core.List.{List, [], _∷_, _++_, map}
 use mathlib.Core.Path.{_≡_, refl}
 use lib.ListN.{set, drop, take, replicate}

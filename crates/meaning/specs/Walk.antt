@@ -1,7 +1,7 @@
 -- A walk by a worklist, over any graph: `kids c` are the cells that c names. A cell is put to the queue when it has been named as often as
 -- `t` says: at the first time (t = 1) the queue becomes the list of the cells reached; at the last time (t = all its namings) it becomes the
 -- list of the cells that no cycle holds back. Assumes nothing.
-use Prim.Native.Nat.{ℕ, zero, suc, _+_}
+use Prim.Native.Nat.{ℕ, zero, suc}
 use mathlib.Core.List.{List, [], _∷_, _++_}
 use mathlib.Core.Bool.{true, false}
 use lib.Dec.{eqb, leb}

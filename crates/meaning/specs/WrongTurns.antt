@@ -1,13 +1,13 @@
 -- Document 01's wrong turns to close off, each by a file or a start that a wrong definition would answer otherwise, and a run cut short: one
 -- table, one theorem. Assumes nothing.
-use Prim.Native.Nat.{ℕ, _+_}
+use Prim.Native.Nat.{ℕ}
 use mathlib.Core.List.{List, [], _∷_, _++_, map}
 use mathlib.Core.Path.{_≡_, refl}
 use lib.ListN.{drop, take}
 use Rattle.meaning.specs.declared.Verdict.the-variants as verdicts
 use Rattle.meaning.specs.declared.End.the-variants as ends
 use Rattle.meaning.specs.Choice.{pick}
-use Rattle.meaning.specs.Reading.{read, header, entry, bodies, finish, signature, constructor, term, node as read-node, branches, limits, declared, mode, sort, expect, mark, times, below}
+use Rattle.meaning.specs.Reading.{read, header, entry, bodies, finish, signature, constructor, term, node as read-node, limits, declared, mode, sort, expect, mark, times, below}
 use Rattle.meaning.specs.Ownership.{check, pass, check-bodies, check-file}
 use Rattle.meaning.specs.Ownership as O
 use Rattle.meaning.specs.Calls.{shape, calls, calls-from, square, fill, no-calls, row, visits, start as start-set, reach, best, relax, rounds, same, settle, judge}

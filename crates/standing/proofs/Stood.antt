@@ -1,7 +1,7 @@
 -- What a reader reads stands in the bytes: a relation on outcomes, and how it goes through a chain of readers. Assumes nothing.
 use Prim.Native.Nat.{ℕ, zero, suc, _+_, _≤_, _<_}
 use mathlib.Core.List.{List, [], _∷_}
-use mathlib.Core.Option.{Option, some, Option·none-ne-some}
+use mathlib.Core.Option.{some, Option·none-ne-some}
 use mathlib.Core.Path.{_≡_, refl, sym, ap, subst}
 use lib.ListN.{length, drop, getD, getElem?}
 use native.Mathlib.Omega.{arith}

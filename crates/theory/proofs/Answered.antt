@@ -10,7 +10,7 @@ use lib.ListN.{length}
 use lib.Dec.{ltb}
 use borrow.Author.Tests.{ltb-true}
 use Rattle.meaning.specs.Syntax.{Term, File}
-use Rattle.meaning.specs.Syntax.{GV, AT, MK, CL, TL, OP, LK, NU, AR, IF, end}
+use Rattle.meaning.specs.Syntax.{GV, AT, MK, CL, TL, OP, LK, NU, AR, IF}
 use Rattle.meaning.specs.Outcome.{ok}
 use Rattle.meaning.specs.Plain.{branch, arithmetic}
 use Rattle.meaning.specs.Machine.{Held, Store, Frame, State, state, Step, next, finished, stuck, step, run, Answer, word, held, constructor-of, function-of}

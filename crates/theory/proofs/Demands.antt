@@ -1,5 +1,5 @@
 -- The three demands, each held against the customer's sentence, over what `check` and `run` promise (`verdictOf`, `runOf`). Assumes nothing.
-use Prim.Native.Nat.{ℕ, zero, _≤_}
+use Prim.Native.Nat.{ℕ, _≤_}
 use mathlib.Core.List.{List, []}
 use mathlib.Core.Path.{_≡_, refl, sym, ap, _∙_, subst}
 use mathlib.Core.Logic.{_⊎_, _↔_}

@@ -11,7 +11,7 @@ use lib.Dec.{eqb}
 use borrow.Author.Tests.{eqb-true, eqb-false}
 use Rattle.meaning.specs.declared.How.{How}
 use Rattle.meaning.specs.declared.How.the-variants.{Never, Tail, Waits}
-use Rattle.meaning.specs.Derivation.{Has, there}
+use Rattle.meaning.specs.Derivation.{Has}
 use Rattle.meaning.specs.Sets.{upto, how-many}
 use Rattle.meaning.specs.Calls.{Square, entry, Walk, stay, tail, wait, Flat, Distinct, more, reach, through, best, relax, rounds, same}
 use Rattle.theory.proofs.Counting.{no-longer, has-inv, nowhere}

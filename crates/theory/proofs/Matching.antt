@@ -1,5 +1,5 @@
 -- Laws of `Match`: appended, kept by another store, opened, looked at. Assumes nothing.
-use Prim.Native.Nat.{ℕ, suc, _+_}
+use Prim.Native.Nat.{ℕ, suc}
 use mathlib.Core.Bool.{Bool, true, false, not, _&&_, _||_}
 use mathlib.Core.List.{List, [], _∷_, _++_, map}
 use mathlib.Core.Path.{_≡_, refl, sym, ap, _∙_, subst}
@@ -7,7 +7,7 @@ use native.Mathlib.Omega.{arith}
 use lib.ListN.{length, getD}
 use Rattle.meaning.specs.Syntax.{Sort, Constructor}
 use Rattle.meaning.specs.Ownership.{Kind, Slot, Slots, fresh, Want, fits, leftover, remains, kind-owned, kind-lent, bound-by-OP, bound-by-LK}
-use Rattle.meaning.specs.Derivation.{Split, left, Has}
+use Rattle.meaning.specs.Derivation.{Split, Has}
 use Rattle.meaning.specs.Plain.{Value, Values, node, list, with-credit}
 use Rattle.meaning.specs.Plain as P
 use Rattle.meaning.specs.Machine.{Held, Store, cell, constructor-of, fields, opened, looked, credit-for}

@@ -1,6 +1,6 @@
 -- An argument list: passing slots one by one, and splitting Γ at once, both ways. Assumes nothing.
-use Prim.Native.Nat.{ℕ, zero, suc, _+_}
-use mathlib.Core.Bool.{Bool, true, false, not, _||_, or-true}
+use Prim.Native.Nat.{ℕ, zero, suc}
+use mathlib.Core.Bool.{Bool, true, false, _||_, or-true}
 use mathlib.Core.List.{List, [], _∷_, _++_}
 use mathlib.Core.Option.{none, some}
 use mathlib.Core.Path.{_≡_, refl, sym, ap, _∙_, subst}

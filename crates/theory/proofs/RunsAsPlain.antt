@@ -1,6 +1,6 @@
 -- For an accepted file and a start that is not refused the run's answer is the plain evaluation's, for every budget: number, value as a
 -- tree, steps, place and frames. Assumes nothing.
-use Prim.Native.Nat.{ℕ, zero, suc, _+_, max}
+use Prim.Native.Nat.{ℕ, zero, suc, max}
 use mathlib.Core.Bool.{Bool, true, false}
 use mathlib.Core.List.{List, [], _∷_, _++_, map}
 use mathlib.Core.Option.{Option, none, some}

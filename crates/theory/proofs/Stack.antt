@@ -1,5 +1,5 @@
 -- The frames of a state: what each waits for, and that every node keeps it so. Assumes nothing.
-use Prim.Native.Nat.{ℕ, zero, suc, _+_}
+use Prim.Native.Nat.{ℕ, zero, suc}
 use mathlib.Core.Bool.{Bool, true, false}
 use mathlib.Core.List.{List, [], _∷_, _++_}
 use mathlib.Core.Option.{Option, none, some}
@@ -7,7 +7,7 @@ use mathlib.Core.Path.{_≡_, refl, _∙_, subst}
 use lib.ListN.{length}
 use lib.Dec.{ltb}
 use Rattle.meaning.specs.Syntax.{Sort, Term, Constructor, File}
-use Rattle.meaning.specs.Syntax.{GV, AT, MK, CL, TL, OP, LK, NU, AR, IF, end}
+use Rattle.meaning.specs.Syntax.{GV, AT, MK, CL, TL, OP, LK, NU, AR, IF}
 use Rattle.meaning.specs.Outcome.{ok}
 use Rattle.meaning.specs.Ownership.{Slots, bind, check, kind-owned}
 use Rattle.meaning.specs.Derivation.{Split, Has}

@@ -1,7 +1,7 @@
 -- Where the start is not refused, every tree word stands for a finite tree: its value, and its cells as often as they are met. Assumes nothing.
-use Prim.Native.Nat.{ℕ, zero, suc, _+_, _-_, _%_, _≤_, _<_}
+use Prim.Native.Nat.{ℕ, zero, suc, _+_, _%_, _≤_, _<_}
 use mathlib.Core.Path.{_≡_, refl, sym, ap, _∙_, subst}
-use mathlib.Core.Logic.{_⊎_, inl, inr, ⊎-elim}
+use mathlib.Core.Logic.{inl, inr, ⊎-elim}
 use mathlib.Core.List.{List, [], _∷_, _++_}
 use mathlib.Core.Bool.{true}
 use native.Mathlib.Omega.{arith}
@@ -16,7 +16,7 @@ use Rattle.meaning.specs.Plain as P
 use Rattle.meaning.specs.Machine.{Store, cell, word-at}
 use Rattle.meaning.specs.Walk.{count}
 use Rattle.meaning.specs.Decode.{tree, plain-fields}
-use Rattle.meaning.specs.Start.{In, fields-at, word-ok, inside, tree-words, kids, Reached, from, through}
+use Rattle.meaning.specs.Start.{In, fields-at, word-ok, inside, tree-words, kids, Reached, through}
 use Rattle.theory.proofs.Splits.{all-right, has-cases}
 use Rattle.theory.proofs.Counting.{has-inv, nowhere}
 use Rattle.theory.proofs.Rep.{Tree, Fields}

@@ -1,8 +1,8 @@
 -- A start that is not refused has its arguments ready: they match the slots of function 0, each owned cell stands once, and the lent cells
 -- are apart. Assumes nothing.
-use Prim.Native.Nat.{ℕ, suc, _+_, _-_, _*_, _%_, _≤_, _<_}
+use Prim.Native.Nat.{ℕ, suc, _+_, _*_, _%_, _≤_, _<_}
 use mathlib.Core.Path.{_≡_, refl, sym, ap, _∙_, subst}
-use mathlib.Core.Logic.{_⊎_, inl, inr, ⊎-elim, _↔_}
+use mathlib.Core.Logic.{inl, inr, ⊎-elim, _↔_}
 use mathlib.Core.List.{List, [], _++_, map}
 use mathlib.Core.Bool.{true, false}
 use native.Mathlib.Omega.{arith}

@@ -7,7 +7,7 @@ use mathlib.Core.Logic.{_⊎_, inl, inr}
 use native.Mathlib.Nat.{zero-add}
 use lib.ListN.{length, set, length-set}
 use borrow.Author.Tests.{eqb-true}
-use Rattle.meaning.specs.Ownership.{Kind, Slots, Want, fits, sized, spends, spend, take}
+use Rattle.meaning.specs.Ownership.{Kind, Slots, Want, fits, sized, spends, spend}
 use Rattle.meaning.specs.Derivation.{Item, own, credit, Split, Has, keeping, as-number, as-lent, as-owned}
 use Rattle.theory.proofs.Splits.{has-split, split-has}
 use Rattle.theory.proofs.Gather.{used-up, gather, context, taken, untouched, Stands, stands-at, leaves-at, number-places, lent-places, owned-places, slot-in, only-number, only-lent, only-own, only-credit}

@@ -1,6 +1,6 @@
 -- A term and a branch list, read and checked at once: what each way to go on asks of the one that follows, and what it answers from that
 -- one's answer, of reading, the ownership and the calls. Assumes nothing.
-use Prim.Native.Nat.{ℕ, _+_, _-_, _%_, _^_, _≤_, _<_}
+use Prim.Native.Nat.{ℕ, _+_, _-_, _^_, _≤_, _<_}
 use mathlib.Core.Bool.{Bool, false, true}
 use mathlib.Core.List.{List, [], _∷_}
 use mathlib.Core.Path.{_≡_, refl, sym, ap, _∙_, subst}
@@ -23,8 +23,8 @@ use Rattle.checker.specs.declared.reading.Read.the-variants.{Next, Fault
 use Rattle.checker.specs.declared.ownership.Taken.{Taken}
 use Rattle.checker.specs.declared.bodies.Plain.{Plain}
 use Rattle.checker.specs.Bits.{bitsOf}
-use Rattle.checker.specs.Slots.{unbound, keptOf}
-use Rattle.checker.specs.Ownership.{takesMany, firstPlace, secondPlace, namesOf, takenOf, kindBy, thenOf, creditsOf, branchOf, repeatOf}
+use Rattle.checker.specs.Slots.{keptOf}
+use Rattle.checker.specs.Ownership.{takesMany, takenOf, kindBy, thenOf, creditsOf, branchOf, repeatOf}
 use Rattle.checker.specs.Noting.{noteAt}
 use Rattle.checker.specs.OwnershipReady.{Judged, Noted, JudgedAll, NotedAll, Made}
 use Rattle.checker.specs.ReadingBytes.{path, nodeAt, branchAt}
@@ -33,7 +33,6 @@ use Rattle.checker.specs.Bodies.{Passable, Plainly, faultAfter, placeAft
 use Rattle.checker.proofs.reading.Then as then-type
 use Rattle.checker.proofs.reading.Steps.{Fine, goes, leaf-of, one-of, two-of, many-of, fault-of, from-le, from-next, from-off, branch-off, pred-is}
 use Rattle.checker.proofs.reading.Steps as steps
-use Rattle.checker.proofs.ownership.Naming.{names-taken}
 use Rattle.checker.proofs.ownership.Cycle.{node-stops, leaf-judged, one-judged, two-judged, many-judged, leaf-noted, one-noted, two-noted, many-noted}
 use Rattle.checker.proofs.ownership.Cycle as cycle
 use Rattle.checker.proofs.ownership.Branching.{Opened, end-judged, end-noted, branch-twice, branch-judged, branch-noted}
@@ -55,9 +54,9 @@ none-plain k wide = record {
 }
 
 -- the same row, told by its parts
-pub same-plain : {f : List ℕ} {at : ℕ} {slots : List Slot} {p : Path} {r : Plain} {a bound nodes : ℕ} {inner : List Slot} → Plainly f at slots p r → inner ≡ r .slots → a ≡ r .at
-    → bound ≡ r .path .slots → nodes ≡ r .path .nodes → Plainly f at slots p (record { at = a; slots = inner; path = path bound nodes })
-same-plain g es ea eb en = rw (es, ea, eb, en) g
+pub same-plain : {f : List ℕ} {at : ℕ} {slots : List Slot} {p q : Path} {r : Plain} {a : ℕ} {inner : List Slot} → Plainly f at slots p r → inner ≡ r .slots → a ≡ r .at → q ≡ r .path
+    → Plainly f at slots p (record { at = a; slots = inner; path = q })
+same-plain g es ea ep = rw (es, ea, ep) g
 
 -- the node behind a row of plain nodes
 pub record NodeMet (f d : List ℕ) (start : ℕ) (slots : List Slot) (p : Path) (r : Plain) (n : Node) : Type 0 where
@@ -84,14 +83,6 @@ module _ {f d : List ℕ} {start : ℕ} {slots : List Slot} {p : Path} {r : Plai
     reads = g .row .reads d _ (steps.fault-reads f d (r .at) (r .path) (g .row .inside) n (g .node) k s e);
     told = λ m o. fault-next o;
   }
-
--- what a node takes by the kinds of a slot or two
-pub names-of : (f d : List ℕ) (at : ℕ) (slots : List Slot) (bound : ℕ) → bound ≤ 32 → (result m : ℕ) → takesMany m ≡ false → (a b i j first second : ℕ) → a ≡ firstPlace m at → b ≡ secondPlace m at
-    → first ≡ firstPlace m at → second ≡ secondPlace m at → i ≡ byteAt f a % 32 → j ≡ byteAt f b % 32
-    → namesOf f m first second (getD slots i unbound .kind) (getD slots j unbound .kind) bound ≡ takenOf f d at slots bound m result
-names-of f d at slots bound few result m k a b i j first second ea eb ef es ei ej =
-    names-taken f d at slots bound few result m k first second ef es i j _ _
-    (ei ∙ ap (λ x. byteAt f x % 32) (ea ∙ sym ef)) refl (ej ∙ ap (λ x. byteAt f x % 32) (eb ∙ sym es)) refl
 
 neither : (a b c d : Bool) (x y w : ℕ) → pick a true (pick b true (pick c true (pick d true false))) ≡ false → pick c x (pick d y w) ≡ w
 unfolding pick

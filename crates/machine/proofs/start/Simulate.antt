@@ -12,7 +12,6 @@ use borrow.Author.Tests.{le-leb, lt-leb, le-ltb, eq-eqb, ne-eqb}
 use Rattle.meaning.specs.Choice.{pick}
 use Rattle.meaning.specs.Syntax.{Sort, Mode, Constructor}
 use Rattle.meaning.specs.Walk.{count, Walk, walk, visit, visits, drain}
-use Rattle.meaning.specs.Machine.{cell}
 use Rattle.meaning.specs.Start.{any, word-ok, inside, tree-words, named, kids, chosen}
 use Rattle.standing.specs.Table.{Modes, mode-byte}
 use Rattle.theory.proofs.Reached.{count-cons}

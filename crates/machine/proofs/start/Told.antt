@@ -12,7 +12,7 @@ use borrow.Author.Tests.{le-leb, lt-leb, lt-ltb, le-ltb}
 use Rattle.meaning.specs.Choice.{pick}
 use Rattle.meaning.specs.Syntax.{Constructor, File}
 use Rattle.meaning.specs.Reading.{is-atom, is-node}
-use Rattle.meaning.specs.Machine.{word-at, cell}
+use Rattle.meaning.specs.Machine.{word-at}
 use Rattle.meaning.specs.Start.{any, holds, is-number, number-words, tree-words, cell-ok, word-ok, inside}
 use Rattle.standing.specs.Table.{Declared}
 use Rattle.theory.proofs.StartCounting.{le?}

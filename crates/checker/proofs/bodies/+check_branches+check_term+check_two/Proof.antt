@@ -30,8 +30,8 @@ use Rattle.checker.proofs.ownership.takes_many.Reads as takes-many-read
 use Rattle.checker.proofs.reading.read_branch.Reads as read-branch-reads
 use Rattle.checker.proofs.reading.read_node.Reads as read-node-reads
 use Rattle.checker.proofs.sets.lowest.Reads as lowest-reads
-use Rattle.checker.proofs.slots.used.Reads as used-reads
 use Rattle.checker.proofs.sets.without_lowest.Reads as without-lowest-reads
+use Rattle.checker.proofs.slots.used.Reads as used-reads
 use Rattle.checker.proofs.bodies.+check_branches+check_term+check_two.{statement}
 use Rattle.checker.proofs.bodies.+check_branches+check_term+check_two.Tie.{close}
 use native.Mathlib.Omega.{arith}
@@ -45,13 +45,12 @@ use Rattle.checker.specs.Bits.{bitsOf}
 use Rattle.checker.specs.Slots.{spentBy, keptOf}
 use Rattle.checker.specs.Ownership.{takenOf, kindBy}
 use Rattle.checker.specs.Noting.{noteAt}
-use Rattle.checker.specs.ReadingBytes.{path}
 use Rattle.checker.specs.Bodies.{Plainly, faultAfter, placeAfter}
 use Rattle.checker.proofs.reading.Steps.{pred-is}
-use Rattle.checker.proofs.ownership.Naming.{many-taken}
+use Rattle.checker.proofs.ownership.Naming.{names-taken, many-taken}
 use Rattle.checker.proofs.ownership.Turns.{kept-turn, kept-none, kept-bound, kept-all}
 use Rattle.checker.proofs.bodies.Meeting.{NodeRead, node-read, branch-read}
-use Rattle.checker.proofs.bodies.Terms.{none-plain, same-plain, NodeMet, no-fault, met-low, fault-passed, names-of, none-noted, NodeMade, leaf-passed, one-passable, one-passed, two-passable, two-passed, many-passable, many-passed, second-passable, two-both, two-one, Walked, none-walked, end-passed, branch-faults, Branched, branch-passable, term-faults, branch-walked}
+use Rattle.checker.proofs.bodies.Terms.{none-plain, same-plain, NodeMet, no-fault, met-low, fault-passed, none-noted, NodeMade, leaf-passed, one-passable, one-passed, two-passable, two-passed, many-passable, many-passed, second-passable, two-both, two-one, Walked, none-walked, end-passed, branch-faults, Branched, branch-passable, term-faults, branch-walked}
 
 abbrev μ-check-branches : Measures 5 check-branches-kinds.ps ℕ
 μ-check-branches κs a = 2 * (length (a .0 .now) - a .1 .1 .0)
@@ -94,16 +93,16 @@ check-two-below t =
     and 5 check-two-kinds.ps (falls 5 check-two-kinds.ps _<_ μ-check-two t) check-two.Pre
 
 abbrev check-branches-Inv-loop : check-branches-lts.InvT-loop
-check-branches-Inv-loop file decl start count credit result slots p calls₀ fault₀ fault-at₀ at₀ left₀ seen₀ calls fault fault-at at left seen = Walked file decl start count credit result slots p calls₀ fault₀ fault-at₀ at left seen calls fault fault-at
+check-branches-Inv-loop file decl start count credit result slots p calls₀ fault₀ place₀ at₀ left₀ seen₀ calls fault place at left seen = Walked file decl start count credit result slots p calls₀ fault₀ place₀ at left seen calls fault place
 
 abbrev check-branches-μ-loop : check-branches-lts.MeasureT-loop
-check-branches-μ-loop file decl start count credit result slots p calls₀ fault₀ fault-at₀ at₀ left₀ seen₀ calls fault fault-at at left seen = left
+check-branches-μ-loop file decl start count credit result slots p calls₀ fault₀ place₀ at₀ left₀ seen₀ calls fault place at left seen = left
 
 abbrev check-branches-calls : ℕ → check-branches-lts.Claims
 check-branches-calls t = (read-branch-reads.Asked, read-branch-reads.Learnt, byte-reads.Asked, byte-reads.Learnt, repeats-reads.Asked, repeats-reads.Learnt, note-fault-reads.Asked, note-fault-reads.Learnt, branch-slots-reads.Asked, branch-slots-reads.Learnt, check-term-below t, check-term.Post, seeing-reads.Asked, seeing-reads.Learnt)
 
 abbrev check-term-calls : ℕ → check-term-lts.Claims
-check-term-calls t = (plain-stands-reads.Asked, plain-stands-reads.Learnt, plain-row-reads.Asked, plain-row-reads.Learnt, read-node-reads.Asked, read-node-reads.Learnt, mark-reads.Asked, mark-reads.Learnt, first-place-reads.Asked, first-place-reads.Learnt, slot-index-reads.Asked, slot-index-reads.Learnt, second-place-reads.Asked, second-place-reads.Learnt, take-named-reads.Asked, take-named-reads.Learnt, takes-many-reads.Asked, takes-many-reads.Learnt, take-many-reads.Asked, take-many-reads.Learnt, note-reads.Asked, note-reads.Learnt, note-fault-reads.Asked, note-fault-reads.Learnt, lowest-reads.Asked, lowest-reads.Learnt, used-reads.Asked, used-reads.Learnt, without-lowest-reads.Asked, without-lowest-reads.Learnt, bound-kind-reads.Asked, bound-kind-reads.Learnt, check-term-below t, check-term.Post, check-two-below t, check-two.Post, check-branches-below t, check-branches.Post)
+check-term-calls t = (plain-stands-reads.Asked, plain-stands-reads.Learnt, plain-row-reads.Asked, plain-row-reads.Learnt, read-node-reads.Asked, read-node-reads.Learnt, mark-reads.Asked, mark-reads.Learnt, first-place-reads.Asked, first-place-reads.Learnt, second-place-reads.Asked, second-place-reads.Learnt, slot-index-reads.Asked, slot-index-reads.Learnt, take-named-reads.Asked, take-named-reads.Learnt, takes-many-reads.Asked, takes-many-reads.Learnt, take-many-reads.Asked, take-many-reads.Learnt, note-reads.Asked, note-reads.Learnt, note-fault-reads.Asked, note-fault-reads.Learnt, lowest-reads.Asked, lowest-reads.Learnt, used-reads.Asked, used-reads.Learnt, without-lowest-reads.Asked, without-lowest-reads.Learnt, bound-kind-reads.Asked, bound-kind-reads.Learnt, check-term-below t, check-term.Post, check-two-below t, check-two.Post, check-branches-below t, check-branches.Post)
 
 abbrev check-two-calls : ℕ → check-two-lts.Claims
 check-two-calls t = (check-term-below t, check-term.Post)
@@ -112,7 +111,7 @@ check-two-calls t = (check-term-below t, check-term.Post)
 branched : (t : ℕ) (c : check-branches-lts.After-branch-slots (check-branches-calls t) (check-branches-at t) check-branches.Post check-branches-Inv-loop check-branches-μ-loop)
     → let a = c .before .before .before .before .before .before .before .before .before .before .before .before .before .args in
     let l = c .before .before .before .before .before .before .before .before .before .before .before .loop in
-    Branched (a .file .now) (a .decl .now) (a .start) (a .count) (a .credit) (a .result) (a .slots) (a .p) (a .calls .now) (a .fault .now) (a .fault-at .now) (l .at) (l .left) (l .seen) (l .calls) (l .fault) (l .fault-at) (c .before .before .before .before .before .before .before .more .given .0 .0) (c .before .before .before .before .before .byte .result) (c .branch-slots .result) (c .before .note-fault .last .0) (c .before .note-fault .last .1 .0)
+    Branched (a .file .now) (a .decl .now) (a .start) (a .count) (a .credit) (a .result) (a .slots) (a .p) (a .calls .now) (a .fault .now) (a .place .now) (l .at) (l .left) (l .seen) (l .calls) (l .fault) (l .place) (c .before .before .before .before .before .before .before .more .given .0 .0) (c .before .before .before .before .before .byte .result) (c .branch-slots .result) (c .before .note-fault .last .0) (c .before .note-fault .last .1 .0)
 branched t c =
     let l = c .before .before .before .before .before .before .before .before .before .before .before .loop in
     record {
@@ -124,7 +123,7 @@ branched t c =
       con = c .before .before .before .before .before .byte .ensures .0;
       kept = c .branch-slots .ensures;
       fault = c .before .note-fault .ensures .0 ∙ ap (faultAfter (l .fault)) (c .before .before .repeats .ensures);
-      place = c .before .note-fault .ensures .1 ∙ ap (λ i. placeAfter (l .fault) (l .fault-at) i (l .at + 2)) (c .before .before .repeats .ensures);
+      place = c .before .note-fault .ensures .1 ∙ ap (λ i. placeAfter (l .fault) (l .place) i (l .at + 2)) (c .before .before .repeats .ensures);
     }
 
 check-branches-loop-holds : (t : ℕ) → check-branches-lts.Need-loop-holds (check-branches-calls t) (check-branches-at t) check-branches.Post check-branches-Inv-loop check-branches-μ-loop
@@ -191,21 +190,21 @@ check-branches-returns-3 : (t : ℕ) → check-branches-lts.Need-returns-3 (chec
 check-branches-returns-3 t c = end-passed (c .before .loop .inv) (c .before .before .before .pre .1 .0) (c .loop-test .left)
 
 abbrev check-term-Inv-loop : check-term-lts.InvT-loop
-check-term-Inv-loop file decl start result calls fault fault-at inner₀ at bound nodes then more path m i j todo₀ inner todo = spentBy (bitsOf 32 todo₀) inner₀ ≡ spentBy (bitsOf 32 todo) inner
+check-term-Inv-loop file decl start result calls fault place inner₀ at then bound after m one-at two-at todo₀ inner todo = spentBy (bitsOf 32 todo₀) inner₀ ≡ spentBy (bitsOf 32 todo) inner
 
 abbrev check-term-μ-loop : check-term-lts.MeasureT-loop
-check-term-μ-loop file decl start result calls fault fault-at inner₀ at bound nodes then more path m i j todo₀ inner todo = todo
+check-term-μ-loop file decl start result calls fault place inner₀ at then bound after m one-at two-at todo₀ inner todo = todo
 
 -- the row of plain nodes, which may have none
 abbrev row-of : (t : ℕ) (c : check-term-lts.Joined1 (check-term-calls t) (check-term-at t) check-term.Post check-term-Inv-loop check-term-μ-loop)
     → Plain
-row-of t c = record { at = c .if1 .at; slots = c .if1 .inner; path = path (c .if1 .bound) (c .if1 .nodes) }
+row-of t c = record { at = c .if1 .at; slots = c .if1 .inner; path = c .if1 .path }
 
 row-met : (t : ℕ) (c : check-term-lts.Joined1 (check-term-calls t) (check-term-at t) check-term.Post check-term-Inv-loop check-term-μ-loop)
     → let a = c .before .before .before .args in
     Plainly (a .file .now) (a .start) (a .slots) (a .p) (row-of t c)
-row-met t c = ⊎-elim (λ w. same-plain (w .1 .ensures) (w .3) (w .4) (w .5) (w .6))
-    (λ w. same-plain (none-plain (c .before .before .before .pre .1) (c .before .before .before .good .1 .1 .1 .1 .0 .1 .0 .1)) (w .1) (w .2) (w .3) (w .4))
+row-met t c = ⊎-elim (λ w. same-plain (w .1 .ensures) (w .4) (w .5) (w .6))
+    (λ w. same-plain (none-plain (c .before .before .before .pre .1) (c .before .before .before .good .1 .1 .1 .1 .0 .1 .0 .1)) (w .1) (w .2) (w .3))
     (c .if1 .came)
 
 -- the node behind the plain ones
@@ -223,55 +222,55 @@ node-reads t c = node-read (c .before .read-node .ensures) (row-met t (c .before
 
 -- what the node takes
 taken : (t : ℕ) (c : check-term-lts.Joined2 (check-term-calls t) (check-term-at t) check-term.Post check-term-Inv-loop check-term-μ-loop)
-    → let a = c .before .before .before .before .before .before .before .before .before .before .before .before .before .before .before .before .before .args in
-    let r = row-of t (c .before .before .before .before .before .before .before .before .before .before .before .before .before .before) in
-    c .if2 .t ≡ takenOf (a .file .now) (a .decl .now) (r .at) (r .slots) (r .path .slots) (c .before .before .before .before .before .before .before .before .before .before .before .mark .result) (a .result)
+    → let a = c .before .before .before .before .before .before .before .before .before .before .before .before .before .before .before .before .args in
+    let r = row-of t (c .before .before .before .before .before .before .before .before .before .before .before .before .before) in
+    c .if2 .t ≡ takenOf (a .file .now) (a .decl .now) (r .at) (r .slots) (r .path .slots) (c .before .before .before .before .before .before .before .before .before .mark .result) (a .result)
 taken t c =
-    let a = c .before .before .before .before .before .before .before .before .before .before .before .before .before .before .before .before .before .args in
-    let r = row-of t (c .before .before .before .before .before .before .before .before .before .before .before .before .before .before) in
-    ⊎-elim (λ w. w .5 ∙ w .1 .ensures ∙ many-taken (a .file .now) (a .decl .now) (r .at) (r .slots) (r .path .slots) (c .before .before .before .before .before .before .before .before .before .before .before .mark .result) (a .result) (sym (c .before .takes-many .ensures) ∙ w .0 .taken))
-    (λ w. w .2 ∙ c .before .before .take-named .ensures ∙ names-of (a .file .now) (a .decl .now) (r .at) (r .slots) (r .path .slots) (row-met t (c .before .before .before .before .before .before .before .before .before .before .before .before .before .before) .few-slots) (a .result) (c .before .before .before .before .before .before .before .before .before .before .before .mark .result) (sym (c .before .takes-many .ensures) ∙ w .0 .left)
-    (c .before .before .before .before .before .before .before .before .before .before .first-place .result) (c .before .before .before .before .before .before .before .before .second-place .result) (c .before .before .before .before .before .before .before .before .before .slot-index .result) (c .before .before .before .before .before .before .before .slot-index2 .result) (c .before .before .before .before .first-place2 .result) (c .before .before .before .second-place2 .result) (c .before .before .before .before .before .before .before .before .before .before .first-place .ensures) (c .before .before .before .before .before .before .before .before .second-place .ensures) (c .before .before .before .before .first-place2 .ensures) (c .before .before .before .second-place2 .ensures) (c .before .before .before .before .before .before .before .before .before .slot-index .ensures .0) (c .before .before .before .before .before .before .before .slot-index2 .ensures .0))
+    let a = c .before .before .before .before .before .before .before .before .before .before .before .before .before .before .before .before .args in
+    let r = row-of t (c .before .before .before .before .before .before .before .before .before .before .before .before .before) in
+    ⊎-elim (λ w. w .5 ∙ w .1 .ensures ∙ many-taken (a .file .now) (a .decl .now) (r .at) (r .slots) (r .path .slots) (c .before .before .before .before .before .before .before .before .before .mark .result) (a .result) (sym (c .before .takes-many .ensures) ∙ w .0 .taken))
+    (λ w. w .2 ∙ c .before .before .take-named .ensures ∙ names-taken (a .file .now) (a .decl .now) (r .at) (r .slots) (r .path .slots) (row-met t (c .before .before .before .before .before .before .before .before .before .before .before .before .before) .few-slots) (a .result) (c .before .before .before .before .before .before .before .before .before .mark .result) (sym (c .before .takes-many .ensures) ∙ w .0 .left)
+    (c .before .before .before .before .before .before .before .before .first-place .result) (c .before .before .before .before .before .before .before .second-place .result) (c .before .before .before .before .before .before .before .before .first-place .ensures) (c .before .before .before .before .before .before .before .second-place .ensures) (c .before .before .before .before .before .before .slot-index .result) (c .before .before .before .before .slot-index2 .result) _ _ (c .before .before .before .before .before .before .slot-index .ensures .0) refl (c .before .before .before .before .slot-index2 .ensures .0) refl)
     (c .if2 .came)
 
 -- and what it calls
 noted : (t : ℕ) (c : check-term-lts.Joined2 (check-term-calls t) (check-term-at t) check-term.Post check-term-Inv-loop check-term-μ-loop)
-    → let a = c .before .before .before .before .before .before .before .before .before .before .before .before .before .before .before .before .before .args in
-    c .if2 .calls ≡ noteAt (a .file .now) (c .before .before .before .before .before .before .before .before .before .before .before .before .before .before .if1 .at) (c .before .before .before .before .before .before .before .before .before .before .before .mark .result) (a .calls .now)
+    → let a = c .before .before .before .before .before .before .before .before .before .before .before .before .before .before .before .before .args in
+    c .if2 .calls ≡ noteAt (a .file .now) (c .before .before .before .before .before .before .before .before .before .before .before .before .before .if1 .at) (c .before .before .before .before .before .before .before .before .before .mark .result) (a .calls .now)
 noted t c =
-    let a = c .before .before .before .before .before .before .before .before .before .before .before .before .before .before .before .before .before .args in
-    ⊎-elim {C = c .if2 .calls ≡ noteAt (a .file .now) (c .before .before .before .before .before .before .before .before .before .before .before .before .before .before .if1 .at) (c .before .before .before .before .before .before .before .before .before .before .before .mark .result) (a .calls .now)} (λ w. w .4 ∙ w .3 .ensures)
-    (λ w. w .1 ∙ sym (none-noted (a .file .now) (c .before .before .before .before .before .before .before .before .before .before .before .before .before .before .if1 .at) (c .before .before .before .before .before .before .before .before .before .before .before .mark .result) (a .calls .now) (sym (c .before .takes-many .ensures) ∙ w .0 .left)))
+    let a = c .before .before .before .before .before .before .before .before .before .before .before .before .before .before .before .before .args in
+    ⊎-elim {C = c .if2 .calls ≡ noteAt (a .file .now) (c .before .before .before .before .before .before .before .before .before .before .before .before .before .if1 .at) (c .before .before .before .before .before .before .before .before .before .mark .result) (a .calls .now)} (λ w. w .4 ∙ w .3 .ensures)
+    (λ w. w .1 ∙ sym (none-noted (a .file .now) (c .before .before .before .before .before .before .before .before .before .before .before .before .before .if1 .at) (c .before .before .before .before .before .before .before .before .before .mark .result) (a .calls .now) (sym (c .before .takes-many .ensures) ∙ w .0 .left)))
     (c .if2 .came)
 
 -- what the node leaves and binds, with its fault noted
 made : (t : ℕ) (c : check-term-lts.Joined3 (check-term-calls t) (check-term-at t) check-term.Post check-term-Inv-loop check-term-μ-loop)
     → let a = c .before .before .before .before .before .before .before .before .before .before .before .before .before .before .before .before .before .before .before .before .before .before .before .args in
-    NodeMade (a .file .now) (a .decl .now) (a .start) (a .result) (a .slots) (a .p) (row-of t (c .before .before .before .before .before .before .before .before .before .before .before .before .before .before .before .before .before .before .before .before)) (c .before .before .before .before .before .before .before .before .before .before .before .before .before .before .before .before .before .before .before .read-node .result) (c .if3 .inner) (a .calls .now) (a .fault .now) (a .fault-at .now) (c .before .before .before .before .before .before .if2 .calls) (c .before .before .before .note-fault .last .0) (c .before .before .before .note-fault .last .1 .0)
+    NodeMade (a .file .now) (a .decl .now) (a .start) (a .result) (a .slots) (a .p) (row-of t (c .before .before .before .before .before .before .before .before .before .before .before .before .before .before .before .before .before .before .before .before)) (c .before .before .before .before .before .before .before .before .before .before .before .before .before .before .before .before .before .before .before .read-node .result) (c .if3 .inner) (a .calls .now) (a .fault .now) (a .place .now) (c .before .before .before .before .before .before .before .if2 .calls) (c .before .before .before .before .note-fault .last .0) (c .before .before .before .before .note-fault .last .1 .0)
 made t c =
     let a = c .before .before .before .before .before .before .before .before .before .before .before .before .before .before .before .before .before .before .before .before .before .before .before .args in
     let r = row-of t (c .before .before .before .before .before .before .before .before .before .before .before .before .before .before .before .before .before .before .before .before) in
-    let l = c .before .before .loop in
+    let l = c .before .before .before .loop in
     let more = c .before .before .before .before .before .before .before .before .before .before .before .before .before .before .before .before .before .before .before .read-node .result .path .slots in
-    let gone = c .before .before .before .before .before .before .if2 .t .spent in
-    let spent : spentBy (bitsOf 32 gone) (r .slots) ≡ l .inner = l .inv ∙ kept-none (l .inner) (l .todo) (c .before .loop-test .left) in
-    let kind = kindBy (a .file .now) (a .decl .now) (r .at) (c .before .before .before .before .before .before .before .before .before .before .before .before .before .before .before .before .before .mark .result) in
+    let gone = c .before .before .before .before .before .before .before .if2 .t .spent in
+    let spent : spentBy (bitsOf 32 gone) (r .slots) ≡ l .inner = l .inv ∙ kept-none (l .inner) (l .todo) (c .before .before .loop-test .left) in
+    let kind = kindBy (a .file .now) (a .decl .now) (r .at) (c .before .before .before .before .before .before .before .before .before .before .before .before .before .before .before .before .mark .result) in
     let kept : c .if3 .inner ≡ keptOf (r .slots) gone (r .path .slots) more kind (r .at) =
-    ⊎-elim {C = c .if3 .inner ≡ keptOf (r .slots) gone (r .path .slots) more kind (r .at)} (λ w. w .4 ∙ kept-bound (r .slots) (l .inner) gone (r .path .slots) more (w .1 .result) (r .at) spent (w .0 .taken)
+    ⊎-elim {C = c .if3 .inner ≡ keptOf (r .slots) gone (r .path .slots) more kind (r .at)} (λ w. w .3 ∙ kept-bound (r .slots) (l .inner) gone (r .path .slots) more (w .1 .result) (r .at) spent (w .0 .taken)
     ∙ ap (λ x. keptOf (r .slots) gone (r .path .slots) more x (r .at)) (w .1 .ensures))
     (λ w. w .1 ∙ kept-all (r .slots) (l .inner) gone (r .path .slots) more kind (r .at) spent (w .0 .left))
     (c .if3 .came) in
     record {
       met = node-met t (c .before .before .before .before .before .before .before .before .before .before .before .before .before .before .before .before .before .before .before);
       read = node-reads t (c .before .before .before .before .before .before .before .before .before .before .before .before .before .before .before .before .before .before);
-      mark = c .before .before .before .before .before .before .before .before .before .before .before .before .before .before .before .before .before .mark .result;
-      taken = c .before .before .before .before .before .before .if2 .t;
-      is-mark = c .before .before .before .before .before .before .before .before .before .before .before .before .before .before .before .before .before .mark .ensures;
-      takes = taken t (c .before .before .before .before .before .before);
+      mark = c .before .before .before .before .before .before .before .before .before .before .before .before .before .before .before .before .mark .result;
+      taken = c .before .before .before .before .before .before .before .if2 .t;
+      is-mark = c .before .before .before .before .before .before .before .before .before .before .before .before .before .before .before .before .mark .ensures;
+      takes = taken t (c .before .before .before .before .before .before .before);
       kept = kept;
-      noted = noted t (c .before .before .before .before .before .before);
-      fault = c .before .before .before .note-fault .ensures .0;
-      place = c .before .before .before .note-fault .ensures .1;
+      noted = noted t (c .before .before .before .before .before .before .before);
+      fault = c .before .before .before .before .note-fault .ensures .0;
+      place = c .before .before .before .before .note-fault .ensures .1;
     }
 
 check-term-plain-stands-requires : (t : ℕ) → check-term-lts.Need-plain-stands-requires (check-term-calls t) (check-term-at t) check-term.Post check-term-Inv-loop check-term-μ-loop
@@ -290,49 +289,43 @@ check-term-returns : (t : ℕ) → check-term-lts.Need-returns (check-term-calls
 check-term-returns t c = fault-passed (node-met t (c .before .before .before)) (c .before .then .given .1)
 
 check-term-mark-requires : (t : ℕ) → check-term-lts.Need-mark-requires (check-term-calls t) (check-term-at t) check-term.Post check-term-Inv-loop check-term-μ-loop
-check-term-mark-requires t c κs = let l = met-low (node-met t (c .before)) in let w = node-reads t (c) in (l .0, omega (arith, w .inside))
+check-term-mark-requires t c κs = let l = met-low (node-met t (c .before .before)) in let w = node-reads t (c .before) in (l .0, omega (arith, w .inside))
 
 check-term-first-place-requires : (t : ℕ) → check-term-lts.Need-first-place-requires (check-term-calls t) (check-term-at t) check-term.Post check-term-Inv-loop check-term-μ-loop
-check-term-first-place-requires t c κs = let l = met-low (node-met t (c .before .before)) in l .0
-
-check-term-slot-index-requires : (t : ℕ) → check-term-lts.Need-slot-index-requires (check-term-calls t) (check-term-at t) check-term.Post check-term-Inv-loop check-term-μ-loop
-check-term-slot-index-requires t c κs = let w = node-reads t (c .before .before) in rw (c .first-place .ensures, c .before .mark .ensures) (w .first)
+check-term-first-place-requires t c κs = let l = met-low (node-met t (c .before .before .before)) in l .0
 
 check-term-second-place-requires : (t : ℕ) → check-term-lts.Need-second-place-requires (check-term-calls t) (check-term-at t) check-term.Post check-term-Inv-loop check-term-μ-loop
 check-term-second-place-requires t c κs = let l = met-low (node-met t (c .before .before .before .before)) in l .0
 
-check-term-slot-index-requires-2 : (t : ℕ) → check-term-lts.Need-slot-index-requires-2 (check-term-calls t) (check-term-at t) check-term.Post check-term-Inv-loop check-term-μ-loop
-check-term-slot-index-requires-2 t c κs = let w = node-reads t (c .before .before .before .before) in rw (c .second-place .ensures, c .before .before .before .mark .ensures) (w .second)
+check-term-slot-index-requires : (t : ℕ) → check-term-lts.Need-slot-index-requires (check-term-calls t) (check-term-at t) check-term.Post check-term-Inv-loop check-term-μ-loop
+check-term-slot-index-requires t c κs = let w = node-reads t (c .before .before .before .before) in rw (c .before .first-place .ensures, c .before .before .mark .ensures) (w .first)
 
 check-term-mul-one : (t : ℕ) → check-term-lts.Need-mul-one (check-term-calls t) (check-term-at t) check-term.Post check-term-Inv-loop check-term-μ-loop
-check-term-mul-one t c = omega (arith, c .before .before .slot-index .ensures .1)
+check-term-mul-one t c = omega (arith, c .slot-index .ensures .1)
 
 check-term-array-copy-out-one : (t : ℕ) → check-term-lts.Need-array-copy-out-one (check-term-calls t) (check-term-at t) check-term.Post check-term-Inv-loop check-term-μ-loop
-check-term-array-copy-out-one t c = omega (arith, c .before .before .slot-index .ensures .1)
+check-term-array-copy-out-one t c = omega (arith, c .slot-index .ensures .1)
+
+check-term-slot-index-requires-2 : (t : ℕ) → check-term-lts.Need-slot-index-requires-2 (check-term-calls t) (check-term-at t) check-term.Post check-term-Inv-loop check-term-μ-loop
+check-term-slot-index-requires-2 t c κs = let w = node-reads t (c .before .before .before .before .before .before) in rw (c .before .before .second-place .ensures, c .before .before .before .before .mark .ensures) (w .second)
 
 check-term-mul-two : (t : ℕ) → check-term-lts.Need-mul-two (check-term-calls t) (check-term-at t) check-term.Post check-term-Inv-loop check-term-μ-loop
-check-term-mul-two t c = omega (arith, c .before .slot-index2 .ensures .1)
+check-term-mul-two t c = omega (arith, c .slot-index2 .ensures .1)
 
 check-term-array-copy-out-two : (t : ℕ) → check-term-lts.Need-array-copy-out-two (check-term-calls t) (check-term-at t) check-term.Post check-term-Inv-loop check-term-μ-loop
-check-term-array-copy-out-two t c = omega (arith, c .before .slot-index2 .ensures .1)
-
-check-term-first-place-requires-2 : (t : ℕ) → check-term-lts.Need-first-place-requires-2 (check-term-calls t) (check-term-at t) check-term.Post check-term-Inv-loop check-term-μ-loop
-check-term-first-place-requires-2 t c κs = let l = met-low (node-met t (c .before .before .before .before .before .before .before .before)) in l .0
-
-check-term-second-place-requires-2 : (t : ℕ) → check-term-lts.Need-second-place-requires-2 (check-term-calls t) (check-term-at t) check-term.Post check-term-Inv-loop check-term-μ-loop
-check-term-second-place-requires-2 t c κs = let l = met-low (node-met t (c .before .before .before .before .before .before .before .before .before)) in l .0
+check-term-array-copy-out-two t c = omega (arith, c .slot-index2 .ensures .1)
 
 check-term-take-named-requires : (t : ℕ) → check-term-lts.Need-take-named-requires (check-term-calls t) (check-term-at t) check-term.Post check-term-Inv-loop check-term-μ-loop
-check-term-take-named-requires t c κs = let l = met-low (node-met t (c .before .before .before .before .before .before .before .before .before .before)) in let w = node-reads t (c .before .before .before .before .before .before .before .before .before) in (l .1, rw (c .before .first-place2 .ensures, c .before .before .before .before .before .before .before .before .mark .ensures) (w .first), rw (c .second-place2 .ensures, c .before .before .before .before .before .before .before .before .mark .ensures) (w .second))
+check-term-take-named-requires t c κs = let l = met-low (node-met t (c .before .before .before .before .before .before .before .before .before)) in let w = node-reads t (c .before .before .before .before .before .before .before .before) in (l .1, rw (c .before .before .before .before .before .first-place .ensures, c .before .before .before .before .before .before .mark .ensures) (w .first), rw (c .before .before .before .before .second-place .ensures, c .before .before .before .before .before .before .mark .ensures) (w .second))
 
 check-term-takes-many-requires : (t : ℕ) → check-term-lts.Need-takes-many-requires (check-term-calls t) (check-term-at t) check-term.Post check-term-Inv-loop check-term-μ-loop
 check-term-takes-many-requires t c κs = search needs
 
 check-term-take-many-requires : (t : ℕ) → check-term-lts.Need-take-many-requires (check-term-calls t) (check-term-at t) check-term.Post check-term-Inv-loop check-term-μ-loop
-check-term-take-many-requires t c κs = let l = met-low (node-met t (c .before .before .before .before .before .before .before .before .before .before .before .before .before)) in (l .1, l .0, l .2)
+check-term-take-many-requires t c κs = let l = met-low (node-met t (c .before .before .before .before .before .before .before .before .before .before .before .before)) in (l .1, l .0, l .2)
 
 check-term-note-requires : (t : ℕ) → check-term-lts.Need-note-requires (check-term-calls t) (check-term-at t) check-term.Post check-term-Inv-loop check-term-μ-loop
-check-term-note-requires t c κs = let l = met-low (node-met t (c .before .before .before .before .before .before .before .before .before .before .before .before .before .before .before)) in l .0
+check-term-note-requires t c κs = let l = met-low (node-met t (c .before .before .before .before .before .before .before .before .before .before .before .before .before .before)) in l .0
 
 check-term-note-fault-requires : (t : ℕ) → check-term-lts.Need-note-fault-requires (check-term-calls t) (check-term-at t) check-term.Post check-term-Inv-loop check-term-μ-loop
 check-term-note-fault-requires t c κs = search needs
@@ -370,14 +363,14 @@ check-term-loop-again t c = c .before .before .before .before .before .loop .inv
 check-term-bound-kind-requires : (t : ℕ) → check-term-lts.Need-bound-kind-requires (check-term-calls t) (check-term-at t) check-term.Post check-term-Inv-loop check-term-μ-loop
 check-term-bound-kind-requires t c κs = let l = met-low (node-met t (c .before .before .before .before .before .before .before .before .before .before .before .before .before .before .before .before .before .before .before)) in (l .0, l .2)
 
-check-term-cast-t67 : (t : ℕ) → check-term-lts.Need-cast-t67 (check-term-calls t) (check-term-at t) check-term.Post check-term-Inv-loop check-term-μ-loop
-check-term-cast-t67 t c = let l = met-low (node-met t (c .before .before .before .before .before .before .before .before .before .before .before .before .before .before .before .before .before .before .before .before .before)) in omega (arith, l .0)
+check-term-cast-t65 : (t : ℕ) → check-term-lts.Need-cast-t65 (check-term-calls t) (check-term-at t) check-term.Post check-term-Inv-loop check-term-μ-loop
+check-term-cast-t65 t c = let l = met-low (node-met t (c .before .before .before .before .before .before .before .before .before .before .before .before .before .before .before .before .before .before .before .before .before)) in omega (arith, l .0)
 
 check-term-mul-inner-2 : (t : ℕ) → check-term-lts.Need-mul-inner-2 (check-term-calls t) (check-term-at t) check-term.Post check-term-Inv-loop check-term-μ-loop
-check-term-mul-inner-2 t c = let l = met-low (node-met t (c .before .before .before .before .before .before .before .before .before .before .before .before .before .before .before .before .before .before .before .before .before .before)) in omega (arith, l .1)
+check-term-mul-inner-2 t c = let l = met-low (node-met t (c .before .before .before .before .before .before .before .before .before .before .before .before .before .before .before .before .before .before .before .before .before)) in omega (arith, l .1)
 
 check-term-array-set-from-inner-2 : (t : ℕ) → check-term-lts.Need-array-set-from-inner-2 (check-term-calls t) (check-term-at t) check-term.Post check-term-Inv-loop check-term-μ-loop
-check-term-array-set-from-inner-2 t c = let w = node-reads t (c .before .before .before .before .before .before .before .before .before .before .before .before .before .before .before .before .before .before .before .before .before) in omega (arith, c .before .before .before .if3 .taken, w .fits)
+check-term-array-set-from-inner-2 t c = let w = node-reads t (c .before .before .before .before .before .before .before .before .before .before .before .before .before .before .before .before .before .before .before .before) in omega (arith, c .before .before .if3 .taken, w .fits)
 
 check-term-enum-known-then-2 : (t : ℕ) → check-term-lts.Need-enum-known-then-2 (check-term-calls t) (check-term-at t) check-term.Post check-term-Inv-loop check-term-μ-loop
 check-term-enum-known-then-2 t c = search needs
@@ -486,15 +479,13 @@ pub +check-branches+check-term+check-two-spec : {M : Type 1} → statement M
     (check-term-returns t)
     (check-term-mark-requires t)
     (check-term-first-place-requires t)
-    (check-term-slot-index-requires t)
     (check-term-second-place-requires t)
-    (check-term-slot-index-requires-2 t)
+    (check-term-slot-index-requires t)
     (check-term-mul-one t)
     (check-term-array-copy-out-one t)
+    (check-term-slot-index-requires-2 t)
     (check-term-mul-two t)
     (check-term-array-copy-out-two t)
-    (check-term-first-place-requires-2 t)
-    (check-term-second-place-requires-2 t)
     (check-term-take-named-requires t)
     (check-term-takes-many-requires t)
     (check-term-take-many-requires t)
@@ -511,7 +502,7 @@ pub +check-branches+check-term+check-two-spec : {M : Type 1} → statement M
     (check-term-loop-less t)
     (check-term-loop-again t)
     (check-term-bound-kind-requires t)
-    (check-term-cast-t67 t)
+    (check-term-cast-t65 t)
     (check-term-mul-inner-2 t)
     (check-term-array-set-from-inner-2 t)
     (check-term-enum-known-then-2 t)

@@ -10,10 +10,10 @@ use Rattle.checker.proofs.reading.Body.{few-slots, all-read}
 use Rattle.checker.proofs.bodies.Filing.{Left, all-left, body-ends, body-next, left-next, body-refused, end-refused, end-finished, all-checked}
 
 abbrev Inv-loop : tie.InvT-loop
-Inv-loop file decl₀ calls₀ start count f₀ at₀ fault₀ fault-at₀ decl calls f at fault fault-at = (f ≤ count) × Bodied file decl count f at × Left file calls f fault fault-at
+Inv-loop file decl₀ calls₀ start count f₀ at₀ fault₀ place₀ decl calls f at fault place = (f ≤ count) × Bodied file decl count f at × Left file calls f fault place
 
 abbrev μ-loop : tie.MeasureT-loop
-μ-loop file decl₀ calls₀ start count f₀ at₀ fault₀ fault-at₀ decl calls f at fault fault-at = count - f
+μ-loop file decl₀ calls₀ start count f₀ at₀ fault₀ place₀ decl calls f at fault place = count - f
 
 loop-holds : tie.Need-loop-holds Inv-loop μ-loop
 loop-holds c = (omega arith, c .before .pre .1, all-left _ _ (c .before .pre .2))

@@ -4,7 +4,6 @@ use Rattle.checker.proofs.reading.read_end.Statement.{statement}
 use Rattle.checker.proofs.reading.read_end.Tie as tie
 use mathlib.Core.Path.{sym, _∙_}
 use Rattle.checker.specs.ReadingBytes.{onNext, endAt}
-use Prim.Native.Nat.{_-_}
 use Rattle.checker.proofs.reading.Steps.{expect-next}
 
 expect-mark-requires : tie.Need-expect-mark-requires
