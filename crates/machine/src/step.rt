@@ -3,7 +3,8 @@ ghost use mathlib.Core.Path.{_≡_};
 ghost use Prim.Native.Nat.{ℕ, _+_, _*_, _-_, _/_, _<_, _≤_, max};
 ghost use lib.ListN.{length, getD, drop};
 ghost use Rattle.meaning.specs.Marks.{findMark};
-ghost use Rattle.meaning.specs.Plain.{ranged, arithmetic};
+ghost use lib.Dec.{ltb, eqb};
+ghost use Rattle.meaning.specs.Plain.{ranged, arithmetic, flag};
 ghost use Rattle.meaning.specs.Machine.{run};
 ghost use Rattle.meaning.specs.InPlace.{begins};
 ghost use Rattle.standing.specs.Bytes.{markAt, arityIn, paramsIn, bodyIn};
@@ -111,20 +112,45 @@ fn number(file: &[u8], work: &mut [u32], s: State) -> State
     bind(work, s, n as u32, at + 4)
 }
 
-// AR's operations on two numbers: the result, or a number over 65,535 where the exact one is outside 0..65,535.
+// The difference of two numbers, or a number over 65,535 where it is below 0.
+fn difference(a: u32, b: u32) -> u64
+    ensures { λ r. ⌜ ranged r ≡ arithmetic 1 a b ⌝ }
+{
+    if b <= a { (a - b) as u64 } else { 65536 }
+}
+
+// 1 where the first number is less than the second, else 0.
+fn less(a: u32, b: u32) -> u64
+    ensures { λ r. ⌜ r ≡ flag (ltb a b) ⌝ }
+{
+    if a < b { 1 } else { 0 }
+}
+
+// 1 where two numbers are the same, else 0.
+fn same(a: u32, b: u32) -> u64
+    ensures { λ r. ⌜ r ≡ flag (eqb a b) ⌝ }
+{
+    if a == b { 1 } else { 0 }
+}
+
+// AR's operations on two numbers: the result, or a number over 65,535 where the exact one is outside 0..65,535. What needs no jump is worked
+// out before the operation is chosen.
 fn sum(op: usize, a: u32, b: u32) -> u64
     ensures { λ r. ⌜ ranged r ≡ arithmetic op a b ⌝ }
 {
+    let minus = difference(a, b);
+    let below = less(a, b);
+    let equal = same(a, b);
     if op < 2 {
         if op == 0 {
             return a as u64 + b as u64;
         }
-        return if b <= a { (a - b) as u64 } else { 65536 };
+        return minus;
     }
     if op == 2 {
-        return if a < b { 1 } else { 0 };
+        return below;
     }
-    if a == b { 1 } else { 0 }
+    equal
 }
 
 // AR: bind the result of an operation, or end the run where it is outside 0..65,535.

@@ -1,14 +1,14 @@
--- The proof of `sum`. Assumes nothing.
+-- `step::sum` meets its contract. Assumes nothing.
 use borrow.Author.Needs.{needs}
 use Rattle.machine.proofs.step.sum.Statement.{statement}
 use Rattle.machine.proofs.step.sum.Tie as tie
 use native.Mathlib.Omega.{arith}
 use Prim.Native.Nat.{ℕ, zero, suc}
+use mathlib.Core.Bool.{Bool, true, false}
 use mathlib.Core.Option.{some}
-use mathlib.Core.Path.{_≡_, refl}
-use lib.Dec.{eqb}
-use borrow.Author.Tests.{le-leb, lt-leb, lt-ltb, le-ltb, eq-eqb, ne-eqb}
-use Rattle.meaning.specs.Plain.{arithmetic, flag}
+use mathlib.Core.Path.{_≡_, refl, sym, ap, _∙_}
+use lib.Dec.{ltb, eqb}
+use Rattle.meaning.specs.Plain.{arithmetic, flag, ranged}
 
 other : (op x y : ℕ) → (op ≡ 0 → ⊥) → (op ≡ 1 → ⊥) → (op ≡ 2 → ⊥) → arithmetic op x y ≡ some (flag (eqb x y))
 other zero x y a b c = absurd (a refl)
@@ -16,43 +16,52 @@ other (suc zero) x y a b c = absurd (b refl)
 other (suc (suc zero)) x y a b c = absurd (c refl)
 other (suc (suc (suc n))) x y a b c = refl
 
+flag-ranged : (b : Bool) → ranged (flag b) ≡ some (flag b)
+flag-ranged true = refl
+flag-ranged false = refl
+
+difference-requires : tie.Need-difference-requires
+difference-requires c κs = search needs
+
+less-requires : tie.Need-less-requires
+less-requires c κs = search needs
+
+same-requires : tie.Need-same-requires
+same-requires c κs = search needs
+
 add-result : tie.Need-add-result
 add-result c = search needs
 
 returns : tie.Need-returns
 returns c = rw (c .if2 .taken)
 
-cast-result : tie.Need-cast-result
-cast-result c = search needs
-
 returns-2 : tie.Need-returns-2
-returns-2 c = let l = c .if3 .taken in let z : c .before .before .before .args .op ≡ 1 = omega (arith, c .before .before .if1 .taken, c .before .if2 .left) in rw (z, le-leb (c .before .before .before .args .b) (c .before .before .before .args .a) (omega arith))
+returns-2 c =
+    let z : c .before .before .before .before .before .args .op ≡ 1 = omega (arith, c .before .if1 .taken, c .if2 .left) in
+    rw z (c .before .before .before .before .difference .ensures)
 
 returns-3 : tie.Need-returns-3
-returns-3 c = let l = c .if3 .left in let z : c .before .before .before .args .op ≡ 1 = omega (arith, c .before .before .if1 .taken, c .before .if2 .left) in rw (z, lt-leb (c .before .before .before .args .b) (c .before .before .before .args .a) (omega arith))
+returns-3 c =
+    let g = c .before .before .before .before .before .args in
+    rw (c .if3 .taken) (ap ranged (c .before .before .before .less .ensures) ∙ flag-ranged (ltb (g .a) (g .b)))
 
 returns-4 : tie.Need-returns-4
-returns-4 c = rw (c .before .if4 .taken, lt-ltb _ _ (c .if5 .taken))
-
-returns-5 : tie.Need-returns-5
-returns-5 c = rw (c .before .if4 .taken, le-ltb _ _ (c .if5 .left))
-
-returns-6 : tie.Need-returns-6
-returns-6 c = rw (other _ _ _ (λ e. omega (arith, c .before .before .if1 .left, e)) (λ e. omega (arith, c .before .before .if1 .left, e)) (c .before .if4 .left), eq-eqb _ _ (c .if6 .taken))
-
-returns-7 : tie.Need-returns-7
-returns-7 c = rw (other _ _ _ (λ e. omega (arith, c .before .before .if1 .left, e)) (λ e. omega (arith, c .before .before .if1 .left, e)) (c .before .if4 .left), ne-eqb _ _ (c .if6 .left))
+returns-4 c =
+    let g = c .before .before .before .before .before .args in
+    let small = c .before .if1 .left in
+    ap ranged (c .before .before .same .ensures)
+    ∙ flag-ranged (eqb (g .a) (g .b))
+    ∙ sym (other (g .op) (g .a) (g .b) (λ e. omega (arith, small, e)) (λ e. omega (arith, small, e)) (c .if3 .left))
 
 pub sum-spec : {M : Type 1} → statement M
 sum-spec =
     tie.close
     (tie.spec
+    difference-requires
+    less-requires
+    same-requires
     add-result
     returns
-    cast-result
     returns-2
     returns-3
-    returns-4
-    returns-5
-    returns-6
-    returns-7)
+    returns-4)
