@@ -2,7 +2,7 @@
 pub mod Filling
 pub mod Members
 pub mod Halves
-pub mod Putting
+pub mod Making
 pub mod Rows
 pub mod Squaring
 pub mod Squares

@@ -44,7 +44,7 @@ waitsIn w = upto 32 (λ g. getD (bitsOf 64 w) g false)
 unfoldable pub tailsIn : ℕ → List Bool
 tailsIn w = upto 32 (λ g. getD (bitsOf 64 w) (32 + g) false)
 
--- how a function is called that is waited for or else called last
+-- how a function that is called is called: waited for if it is in the set, else last
 unfoldable pub wayOf : List Bool → ℕ → How
 wayOf ws g = pick (getD ws g false) Waits Tail
 

@@ -413,8 +413,8 @@ fn check_bodies(
     }
 }
 
-// The whole file, with what it declares in the table and the calls of each body in a word: number 0 where nothing is wrong, else the answer 1
-// to 12 that refuses the file, and at its place.
+// The whole file, with what it declares in the table and the calls of each body in a word: number is 0 where nothing is wrong, and at says nothing
+// then; else number is the answer 1 to 12 that refuses the file, and at its place.
 pub(crate) fn check_file(file: &[u8], decl: &mut [u32; 128], calls: &mut [u64; 32]) -> Reached
     requires { ⌜ (now decl ≡ replicate 128 255) × (now calls ≡ replicate 32 0) ⌝ }
     ensures { λ r. ⌜ Finished (now (file .entry)) (now (decl .exit)) (now (calls .exit)) r ⌝ }

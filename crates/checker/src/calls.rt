@@ -37,7 +37,7 @@ fn tails_of(calls: u64) -> u32
     (calls / 4294967296) as u32
 }
 
-// How a function is called that is waited for or else called last.
+// How a function that is called is called: waited for if it is in the set, else last.
 fn way(waits: u32, i: usize) -> How
     requires { ⌜ i < 32 ⌝ }
     ensures { λ r. ⌜ r ≡ wayOf (bitsOf 32 waits) i ⌝ }

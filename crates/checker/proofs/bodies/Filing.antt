@@ -36,7 +36,7 @@ use Rattle.checker.specs.Ownership.{resultIn, laidOf, boundOf}
 use Rattle.checker.specs.OwnershipReady.{spanned, Known, Ready, Judged, Noted, ReadyBody, JudgedBody, NotedBody}
 use Rattle.checker.specs.Bodies.{Told, Passable, Passed, PassedBody, Finished}
 use Rattle.checker.proofs.reading.Tabled.{fill-wide, con-count, fun-count}
-use Rattle.checker.proofs.reading.Steps.{from-le, from-next, from-fault, expect-next}
+use Rattle.checker.proofs.reading.Steps.{fault-next, from-le, from-next, from-fault, expect-next}
 use Rattle.checker.proofs.reading.Body.{too-long, body-fails, body-goes, body-here, expect-off, from-end, end-fails, end-reads, said}
 use Rattle.checker.proofs.ownership.Taking.{modes-scaled}
 use Rattle.checker.proofs.ownership.Branching.{laid-tells}
@@ -95,7 +95,7 @@ module _ (f d : List ℕ) (at j : ℕ) where
   body-unread k s h e = record {
     from = expect-off f at 2 k s (at + 3) h e;
     reads = inl (k, s, e, refl);
-    told = λ n z. let y : _≡_ {A = ℕ} 0 1 = cc in absurd (omega arith);
+    told = λ n z. fault-next z;
   }
 
   module _ (low : j < 32) where

@@ -18,12 +18,9 @@ use Rattle.checker.specs.declared.reading.Read.{Read}
 use Rattle.checker.specs.declared.reading.Read.the-variants.{Next, Fault}
 use Rattle.checker.specs.ReadingBytes.{bindsOf, knownArity, knownCount, room, atomField, makeFields, callFields, openFields, sumFields, fieldsAt, followsAt, path, node, limited, afterFields, nodeOf, nodeAt, moreOf, fitting, branchFieldsBy, branchBy, branchAt}
 use Rattle.checker.specs.Ownership.{firstPlace, secondPlace, namedBy, pastOf, thenOf, creditsOf}
-use Rattle.checker.proofs.reading.Steps.{next-is, from-next, from-fields}
+use Rattle.checker.proofs.reading.Steps.{next-is, fault-next, from-next, from-fields}
 
 -- a read that goes on took the way that its tests say
-no-next : {A : Type 0} {x q n : ℕ} → Fault x q ≡ Next n → A
-no-next e = let z : _≡_ {A = ℕ} 0 1 = cc in absurd (omega arith)
-
 chosen : {A : Type 0} (b : Bool) (x y : Read) {n : ℕ} → pick b x y ≡ Next n → (b ≡ true → x ≡ Next n → A) → (b ≡ false → y ≡ Next n → A) → A
 unfolding pick
 chosen true x y e g h = g refl e
@@ -32,7 +29,7 @@ chosen false x y e g h = h refl e
 -- one that a test would refuse did not meet it
 passed : (b : Bool) (x q : ℕ) (y : Read) {n : ℕ} → pick b (Fault x q) y ≡ Next n → (b ≡ false) × (y ≡ Next n)
 unfolding pick
-passed true x q y e = no-next e
+passed true x q y e = fault-next e
 passed false x q y e = (refl, e)
 
 room-next : (f : List ℕ) (a n k : ℕ) → room f a n ≡ Next k → k ≡ a + n
@@ -59,7 +56,7 @@ known-count d g h = go (ltb g 32) refl
 module _ (f d : List ℕ) (a : ℕ) {k : ℕ} where
   atom-next : atomField f d a ≡ Next k → k ≡ a + 1
   unfolding atomField
-  atom-next e = chosen (eqb (knownArity d (getD f a 0)) 0) _ _ (passed (leb (length f) a) _ _ _ e .1) (λ _ w. sym (next-is w)) (λ _ w. no-next w)
+  atom-next e = chosen (eqb (knownArity d (getD f a 0)) 0) _ _ (passed (leb (length f) a) _ _ _ e .1) (λ _ w. sym (next-is w)) (λ _ w. fault-next w)
 
   make-next : makeFields f d a ≡ Next k → k ≡ a + 2 + arityIn d (getD f a 0)
   unfolding makeFields
@@ -110,7 +107,7 @@ module _ (f d : List ℕ) (at : ℕ) where
       chosen (eqb m 10) _ _ e (λ q w. past m 10 (eqb-true m 10 q) k (omega (arith, open-next f d (at + 2) w))) (λ _ e.
       chosen (eqb m 12) _ _ e (λ q w. past m 12 (eqb-true m 12 q) k (omega (arith, room-next f (at + 2) 2 k w))) (λ _ e.
       chosen (eqb m 13) _ _ e (λ q w. past m 13 (eqb-true m 13 q) k (omega (arith, sum-next f d (at + 2) w))) (λ _ e.
-      chosen (eqb m 14) _ _ e (λ q w. past m 14 (eqb-true m 14 q) k (omega (arith, room-next f (at + 2) 1 k w))) (λ _ w. no-next w))))))))))
+      chosen (eqb m 14) _ _ e (λ q w. past m 14 (eqb-true m 14 q) k (omega (arith, room-next f (at + 2) 1 k w))) (λ _ w. fault-next w))))))))))
 
   follows-past : (m k : ℕ) → k ≡ pastOf f d at m → followsAt f at m k ≡ thenOf f d at m
   unfolding followsAt thenOf
@@ -203,4 +200,4 @@ branch-read {f} {d} {at} {credit} {bound} {more} e h =
       low = a .0;
       count = omega (arith, s, t);
       fits = omega (arith, s, ltb-false 32 (bound + moreOf (knownArity d c) credit) (y .0));
-    }) (λ _ w. no-next w)
+    }) (λ _ w. fault-next w)

@@ -3,7 +3,6 @@
 use Prim.Native.Nat.{ℕ}
 use mathlib.Core.Bool.{Bool, true, false}
 use mathlib.Core.Path.{_≡_, refl, sym, _∙_, subst}
-use native.Mathlib.Omega.{arith}
 use lib.Dec.{eqb}
 use borrow.Author.Tests.{eqb-true, eqb-false, eq-eqb, ne-eqb}
 use Rattle.meaning.specs.Choice.{pick}
@@ -29,10 +28,6 @@ told-fault n x q h = rw (ne-eqb x 0 h)
 
 fault-told : (n : ℕ) {x q y z : ℕ} → x ≡ y → q ≡ z → (y ≡ 0 → ⊥) → toldBy n x q ≡ Fault y z
 fault-told n {x} {q} c d h = told-fault n x q (λ i. h (sym c ∙ i)) ∙ (λ i. Fault (c i) (d i))
-
--- an answer that refuses does not go on
-pub fault-next : {A : Type 0} {x q n : ℕ} → Fault x q ≡ Next n → A
-fault-next e = let z : _≡_ {A = ℕ} 0 1 = cc in absurd (omega arith)
 
 -- what noting a fault leaves
 module _ (x q number place : ℕ) where

@@ -31,14 +31,14 @@ use Rattle.checker.specs.ReadingBytes.{path, nodeAt, branchAt}
 use Rattle.checker.specs.Reads.{on, ReadsTerm, ReadsBranches}
 use Rattle.checker.specs.Bodies.{Passable, Plainly, faultAfter, placeAfter, Told, Passed, PassedTwo, one, both, PassedAll}
 use Rattle.checker.proofs.reading.Then as then-type
-use Rattle.checker.proofs.reading.Steps.{Fine, goes, leaf-of, one-of, two-of, many-of, fault-of, from-le, from-next, from-off, branch-off, pred-is}
+use Rattle.checker.proofs.reading.Steps.{fault-next, Fine, goes, leaf-of, one-of, two-of, many-of, fault-of, from-le, from-next, from-off, branch-off, pred-is}
 use Rattle.checker.proofs.reading.Steps as steps
 use Rattle.checker.proofs.ownership.Cycle.{node-stops, leaf-judged, one-judged, two-judged, many-judged, leaf-noted, one-noted, two-noted, many-noted}
 use Rattle.checker.proofs.ownership.Cycle as cycle
 use Rattle.checker.proofs.ownership.Branching.{Opened, end-judged, end-noted, branch-twice, branch-judged, branch-noted}
 use Rattle.checker.proofs.ownership.Branching as branching
 use Rattle.checker.proofs.bodies.Meeting.{NodeRead, BranchRead, branch-read}
-use Rattle.checker.proofs.bodies.Telling.{fault-next, none-told, told-on, told-past, told-both}
+use Rattle.checker.proofs.bodies.Telling.{none-told, told-on, told-past, told-both}
 
 -- a row of no nodes
 pub none-plain : {f d : List ℕ} {at : ℕ} {slots : List Slot} {p : Path} → Passable f d at p → length slots ≡ 32 → Plainly f at slots p (record { at = at; slots = slots; path = p })

@@ -32,12 +32,16 @@ from-le h (off x q) = off x q
 pub next-is : {n m : ℕ} → Next n ≡ Next m → n ≡ m
 next-is e = cc
 
+-- an answer that refuses does not go on
+pub fault-next : {A : Type 0} {x q n : ℕ} → Fault x q ≡ Next n → A
+fault-next e = let z : _≡_ {A = ℕ} 0 1 = cc in absurd (omega arith)
+
 fault-is : (x p y q : ℕ) → Fault x p ≡ Fault y q → (x ≡ y) × (p ≡ q)
 fault-is x p y q e = (cc, cc)
 
 pub from-next : {f : List ℕ} {a n : ℕ} {r : Read} → r ≡ Next n → From f a r → (a ≤ n) × (n ≤ length f)
 from-next {n = m} e (on {n = n} p q) = let z = next-is e in (omega arith, omega arith)
-from-next e (off {x = x} {p = p} _ _) = let z : _≡_ {A = ℕ} 0 1 = cc in absurd (omega arith)
+from-next e (off _ _) = fault-next e
 
 pub from-fault : {f : List ℕ} {a x p : ℕ} {r : Read} → r ≡ Fault x p → From f a r → (0 < x) × (p ≤ length f)
 from-fault e (on {n = n} p q) = let z : _≡_ {A = ℕ} 0 1 = cc in absurd (omega arith)
@@ -290,7 +294,7 @@ unfolding expectAt pick
 expect-next f at m n e = go (ltb (length f) (at + 2)) refl (eqb (findMark (markAt f at)) m) refl
   where
     other : (x q : ℕ) → expectAt f at m ≡ Fault x q → (n ≡ at + 2) × (n ≤ length f)
-    other x q w = let y : Fault x q ≡ Next n = sym w ∙ e in let z : _≡_ {A = ℕ} 0 1 = cc in absurd (omega arith)
+    other x q w = fault-next (sym w ∙ e)
 
     go : (u : Bool) → ltb (length f) (at + 2) ≡ u → (v : Bool) → eqb (findMark (markAt f at)) m ≡ v → (n ≡ at + 2) × (n ≤ length f)
     go true eu v ev = other 2 (length f) (rw eu)

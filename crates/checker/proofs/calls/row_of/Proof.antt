@@ -10,7 +10,7 @@ use Rattle.meaning.specs.Sets.{zip, or}
 use Rattle.checker.specs.Bits.{bitsOf}
 use Rattle.checker.proofs.sets.Digits.{bits-length, some}
 use Rattle.checker.proofs.calls.Members.{Passing, pass-start, is-member, unchanged, pass-next, passed, all-passed}
-use Rattle.checker.proofs.calls.Putting.{row-to, row-start, row-same, row-more, row-all}
+use Rattle.checker.proofs.calls.Making.{row-to, row-start, row-same, row-more, row-all}
 
 abbrev Inv-loop : tie.InvT-loop
 Inv-loop waits tails out₀ left₀ k₀ out left k = (k ≤ 32) × (b : ℕ) × Passing (zip or (bitsOf 32 waits) (bitsOf 32 tails)) (bitsOf 32 left) k b × (out ≡ row-to waits tails b)
