@@ -1,5 +1,6 @@
 pub mod Choice
 pub mod Marks
+pub mod Keys
 pub mod Syntax
 pub mod Outcome
 pub mod Reading

@@ -1,7 +1,8 @@
 // What code and definitions share of document 01: the table of marks, the limits, a slot, a call, and the answers.
 ghost use mathlib.Core.Path.{_≡_};
-ghost use Prim.Native.Nat.{_<_};
-ghost use Rattle.meaning.specs.Marks.{rowAt, findMark};
+ghost use Prim.Native.Nat.{_<_, _≤_};
+ghost use Rattle.meaning.specs.Marks.{rowAt, sizeAt, bindsAt, findMark};
+ghost use Rattle.meaning.specs.Keys.{keyOf, byKey};
 
 // A record's mark, the count of its fixed fields in bytes, and the count of slots that it binds.
 pub struct MarkRow {
@@ -18,7 +19,7 @@ const MARKS: [MarkRow; 15] = [
     },
     MarkRow {
         mark: 0x464E,
-        fields: 1,
+        fields: 2,
         binds: 0,
     },
     MarkRow {
@@ -88,6 +89,9 @@ const MARKS: [MarkRow; 15] = [
     },
 ];
 
+// The bytes of a mark.
+pub const MARK: usize = 2;
+
 // A mark's place in the table; 15 stands for no mark of the table, and 16 for a file that ends within the mark.
 pub const CN: usize = 0;
 
@@ -140,6 +144,14 @@ pub const FIELDS: u8 = 4;
 
 pub const PARAMETERS: u8 = 8;
 
+// A byte as a count.
+fn wide(b: u8) -> usize
+    ensures { λ r. ⌜ r ≡ b ⌝ }
+{
+    b as usize
+}
+
+// The row at a place within the table.
 fn table_row(i: usize) -> MarkRow
     requires { ⌜ i < 15 ⌝ }
     ensures { λ r. ⌜ r ≡ rowAt i ⌝ }
@@ -175,28 +187,91 @@ pub fn mark_row(i: usize) -> MarkRow
     }
 }
 
-// The place of a mark in the table, or 15.
+// How many slots a record binds; a branch binds by its constructor, and its row says 0.
+pub fn binds(i: usize) -> usize
+    ensures { λ r. ⌜ (r ≡ bindsAt i) × (r ≤ 5) ⌝ }
+{
+    let row = mark_row(i);
+    wide(row.binds)
+}
+
+// The bytes of a record's mark and fixed fields.
+pub fn size(i: usize) -> usize
+    ensures { λ r. ⌜ (r ≡ sizeAt i) × (r ≤ 5) ⌝ }
+{
+    let row = mark_row(i);
+    MARK + wide(row.fields)
+}
+
+// A mark's key is below 64, and another for each mark of the table: its first letter and four times its second.
+const CN_KEY: u16 = (MARKS[CN].mark / 256 + MARKS[CN].mark % 256 * 4) % 64;
+
+const FN_KEY: u16 = (MARKS[FN].mark / 256 + MARKS[FN].mark % 256 * 4) % 64;
+
+const BD_KEY: u16 = (MARKS[BD].mark / 256 + MARKS[BD].mark % 256 * 4) % 64;
+
+const ND_KEY: u16 = (MARKS[ND].mark / 256 + MARKS[ND].mark % 256 * 4) % 64;
+
+const GV_KEY: u16 = (MARKS[GV].mark / 256 + MARKS[GV].mark % 256 * 4) % 64;
+
+const AT_KEY: u16 = (MARKS[AT].mark / 256 + MARKS[AT].mark % 256 * 4) % 64;
+
+const MK_KEY: u16 = (MARKS[MK].mark / 256 + MARKS[MK].mark % 256 * 4) % 64;
+
+const CL_KEY: u16 = (MARKS[CL].mark / 256 + MARKS[CL].mark % 256 * 4) % 64;
+
+const TL_KEY: u16 = (MARKS[TL].mark / 256 + MARKS[TL].mark % 256 * 4) % 64;
+
+const OP_KEY: u16 = (MARKS[OP].mark / 256 + MARKS[OP].mark % 256 * 4) % 64;
+
+const LK_KEY: u16 = (MARKS[LK].mark / 256 + MARKS[LK].mark % 256 * 4) % 64;
+
+const BR_KEY: u16 = (MARKS[BR].mark / 256 + MARKS[BR].mark % 256 * 4) % 64;
+
+const NU_KEY: u16 = (MARKS[NU].mark / 256 + MARKS[NU].mark % 256 * 4) % 64;
+
+const AR_KEY: u16 = (MARKS[AR].mark / 256 + MARKS[AR].mark % 256 * 4) % 64;
+
+const IF_KEY: u16 = (MARKS[IF].mark / 256 + MARKS[IF].mark % 256 * 4) % 64;
+
+// The place in the table of the mark with a key, if there is one.
+fn by_key(key: u16) -> usize
+    ensures { λ r. ⌜ r ≡ byKey key ⌝ }
+{
+    match key {
+        CN_KEY => CN,
+        FN_KEY => FN,
+        BD_KEY => BD,
+        ND_KEY => ND,
+        GV_KEY => GV,
+        AT_KEY => AT,
+        MK_KEY => MK,
+        CL_KEY => CL,
+        TL_KEY => TL,
+        OP_KEY => OP,
+        LK_KEY => LK,
+        BR_KEY => BR,
+        NU_KEY => NU,
+        AR_KEY => AR,
+        IF_KEY => IF,
+        _ => OTHER,
+    }
+}
+
+// The place in the table of the mark that has this mark's key: its own place, if it is one of the table.
+pub fn keyed_mark(mark: u16) -> usize
+    ensures { λ r. ⌜ r ≡ byKey (keyOf mark) ⌝ }
+{
+    by_key((mark / 256 + mark % 256 * 4) % 64)
+}
+
+// The place of a mark in the table, or 15: by its key, and then by its row.
 pub fn find_mark(mark: u16) -> usize
     ensures { λ r. ⌜ r ≡ findMark mark ⌝ }
 {
-    match mark {
-        0x434E => CN,
-        0x464E => FN,
-        0x4244 => BD,
-        0x4E44 => ND,
-        0x4756 => GV,
-        0x4154 => AT,
-        0x4D4B => MK,
-        0x434C => CL,
-        0x544C => TL,
-        0x4F50 => OP,
-        0x4C4B => LK,
-        0x4252 => BR,
-        0x4E55 => NU,
-        0x4152 => AR,
-        0x4946 => IF,
-        _ => OTHER,
-    }
+    let place = keyed_mark(mark);
+    let row = mark_row(place);
+    if row.mark == mark { place } else { OTHER }
 }
 
 // A slot is a number, lent, owned, a credit of a size, or used; a used one keeps the kind that it had.
