@@ -10,3 +10,4 @@ pub mod Words
 pub mod Declaring
 pub mod Ending
 pub mod Between
+pub mod Entries

@@ -1,7 +1,11 @@
 -- Bytes and marks by their place in a file, and what the table of a file's declarations says. Assumes nothing.
-use Prim.Native.Nat.{ℕ, zero, suc, _+_, _*_, _/_, _%_}
+use Prim.Native.Nat.{ℕ, zero, suc, _+_, _*_, _/_, _%_, _<_}
 use mathlib.Core.List.{List, [], _∷_}
-use lib.ListN.{getD}
+use mathlib.Core.Path.{_≡_}
+use lib.ListN.{length, getD}
+use lib.Dec.{ltb}
+use Rattle.meaning.specs.Choice.{pick}
+use Rattle.meaning.specs.Marks.{findMark}
 
 abbrev pub byteAt : List ℕ → ℕ → ℕ
 byteAt bytes p = getD bytes p 0
@@ -9,6 +13,10 @@ byteAt bytes p = getD bytes p 0
 -- the two bytes of a mark as one number
 abbrev pub markAt : List ℕ → ℕ → ℕ
 markAt bytes p = byteAt bytes p * 256 + byteAt bytes (p + 1)
+
+-- its place in the table of marks; 16 where the file ends within it
+unfoldable pub numberAt : List ℕ → ℕ → ℕ
+numberAt f at = pick (ltb (length f) (at + 2)) 16 (findMark (markAt f at))
 
 -- n bytes from a place on
 unfoldable pub bytesAt : List ℕ → ℕ → ℕ → List ℕ
@@ -31,3 +39,13 @@ modesIn table f = getD table (64 + f) 0 / 256
 
 abbrev pub bodyIn : List ℕ → ℕ → ℕ
 bodyIn table f = getD table (96 + f) 0
+
+-- the sort of a function's result, whose byte stands behind the modes
+abbrev pub resultIn : (bytes table : List ℕ) → ℕ → ℕ
+resultIn bytes table f = byteAt bytes (modesIn table f + paramsIn table f)
+
+-- what is read from a table by an index below a count: the entry; `past` at another index, which a table with all its words gives there too
+pub record Entry (table : List ℕ) (count i entry past r : ℕ) : Type 0 where
+  pub exact : r ≡ pick (ltb i count) entry past
+  pub inside : i < count → r ≡ entry
+  pub whole : length table ≡ 128 → r ≡ entry

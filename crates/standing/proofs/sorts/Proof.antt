@@ -1,0 +1,16 @@
+-- `standing::sorts` meets its contract. Assumes nothing.
+use borrow.Author.Needs.{needs}
+use Rattle.standing.proofs.sorts.Statement.{statement}
+use Rattle.standing.proofs.sorts.Tie as tie
+use native.Mathlib.Omega.{arith}
+use Prim.Native.Nat.{_/_}
+use Rattle.standing.proofs.Entries.{entry-by}
+
+constructor-word-requires : tie.Need-constructor-word-requires
+constructor-word-requires c κs = search needs
+
+returns : tie.Need-returns
+returns c = (entry-by (λ w. w / 256) (c .constructor-word .ensures .0), omega arith)
+
+pub sorts-spec : {M : Type 1} → statement M
+sorts-spec = tie.close (tie.spec constructor-word-requires returns)
