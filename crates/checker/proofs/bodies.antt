@@ -1,6 +1,5 @@
 -- The laws behind the module `bodies`.
 pub mod Telling
 pub mod Meeting
-pub mod Plainness
 pub mod Terms
 pub mod Filing

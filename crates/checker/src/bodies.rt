@@ -16,7 +16,6 @@ use crate::ownership::seeing;
 use crate::ownership::slot_index;
 use crate::ownership::take_many;
 use crate::ownership::take_named;
-use crate::ownership::take_pair;
 use crate::ownership::takes_many;
 use crate::reading::Path;
 use crate::reading::Reached;
@@ -31,14 +30,10 @@ use crate::sets::lowest;
 use crate::sets::without_lowest;
 use crate::slots::fresh_slots;
 use crate::slots::used;
-use meaning::AR;
 use meaning::BD;
 use meaning::BYTES;
 use meaning::CL;
 use meaning::Kind;
-use meaning::NODES;
-use meaning::NU;
-use meaning::SLOTS;
 use meaning::Slot;
 use meaning::TL;
 ghost use mathlib.Core.Path.{_≡_};
@@ -47,103 +42,7 @@ ghost use lib.ListN.{length, replicate};
 ghost use Rattle.checker.specs.ReadingBytes.{path, knownCount};
 ghost use Rattle.checker.specs.Opening.{Bodied};
 ghost use Rattle.checker.specs.Noting.{noteAt};
-ghost use Rattle.checker.specs.Bodies.{Passable, sumSize, plainSize, plainStands, Plainly, faultAfter, placeAfter, Passed, PassedTwo, PassedAll, PassedBody, Finished};
-
-// Where a row of plain nodes ends, and the slots and the path there.
-pub struct Plain {
-    pub at: usize,
-    pub slots: [Slot; 32],
-    pub path: Path,
-}
-
-// The bytes of an AR that names two numbers, by the kinds of the slots; 0 where something is wrong.
-fn sum_size(file: &[u8], at: usize, bound: usize, first: Kind, second: Kind) -> usize
-    requires { ⌜ (at + 5 ≤ length (now file)) × (bound ≤ 32) ⌝ }
-    ensures { λ r. ⌜ r ≡ sumSize (now (file .entry)) at bound first second ⌝ }
-{
-    if 3 < file[at + 2] {
-        return 0;
-    }
-    let t = take_pair(file, at + 3, at + 4, first, second, bound);
-    if t.number != 0 {
-        return 0;
-    }
-    5
-}
-
-// The bytes of a plain node: an NU or an AR with nothing wrong, which takes no tree and binds a number; 0 of another.
-fn plain_size(file: &[u8], at: usize, p: Path, first: Kind, second: Kind) -> usize
-    requires { ⌜ (at + 5 ≤ length (now file)) × (length (now file) ≤ 4096) ⌝ }
-    ensures { λ r. ⌜ r ≡ plainSize (now (file .entry)) at p first second ⌝ }
-{
-    if SLOTS <= p.slots {
-        return 0;
-    }
-    if NODES <= p.nodes {
-        return 0;
-    }
-    match mark(file, at) {
-        NU => 4,
-        AR => sum_size(file, at, p.slots, first, second),
-        _ => 0,
-    }
-}
-
-// Plain nodes in a row, each followed by the next alone: their slots are bound in place.
-fn plain_row(file: &[u8], start: usize, slots: [Slot; 32], p: Path) -> Plain
-    requires { ⌜ (length (now file) ≤ 4096) × (start ≤ length (now file)) × (p .slots ≤ 32) × (p .nodes ≤ 64) ⌝ }
-    ensures { λ r. ⌜ Plainly (now (file .entry)) start slots p r ⌝ }
-{
-    let mut inner = slots;
-    let mut at = start;
-    let mut path = p;
-    while at + 5 <= file.len() {
-        let i = slot_index(file, at + 3);
-        let j = slot_index(file, at + 4);
-        let one = inner[i];
-        let two = inner[j];
-        let first = one.kind;
-        let second = two.kind;
-        let size = plain_size(file, at, path, first, second);
-        if size == 0 {
-            return Plain {
-                at,
-                slots: inner,
-                path,
-            };
-        }
-        let bound = path.slots;
-        inner[bound] = Slot {
-            kind: Kind::Number,
-            place: at as u16,
-        };
-        path = Path {
-            slots: bound + 1,
-            nodes: path.nodes + 1,
-        };
-        at += size;
-    }
-    Plain {
-        at,
-        slots: inner,
-        path,
-    }
-}
-
-// Does the mark of a plain node stand at a place, with bytes enough behind it?
-fn plain_stands(file: &[u8], at: usize) -> bool
-    requires { ⌜ at ≤ 4096 ⌝ }
-    ensures { λ r. ⌜ r ≡ plainStands (now (file .entry)) at ⌝ }
-{
-    if file.len() < at + 5 {
-        return false;
-    }
-    match mark(file, at) {
-        NU => true,
-        AR => true,
-        _ => false,
-    }
-}
+ghost use Rattle.checker.specs.Bodies.{Passable, faultAfter, placeAfter, Passed, PassedTwo, PassedAll, PassedBody, Finished};
 
 // The calls of a body, as bits, with that of the record at a place: a CL by the number of its function, a TL by 32 more.
 fn note(file: &[u8], at: usize, m: usize, calls: u64) -> u64
@@ -169,12 +68,12 @@ fn note_fault(fault: &mut u32, place: &mut usize, number: u32, at: usize)
     }
 }
 
-// The term at a place: behind its plain nodes, one node, and the terms that follow it. Its calls are noted, and the number and the place of the
-// first fault of the ownership check.
+// The term at a place: one node, and the terms that follow it. Its calls are noted, and the number and the place of the first fault of the
+// ownership check.
 fn check_term(
     file: &[u8],
     decl: &[u32; 128],
-    start: usize,
+    at: usize,
     result: usize,
     slots: [Slot; 32],
     p: Path,
@@ -182,19 +81,10 @@ fn check_term(
     fault: &mut u32,
     place: &mut usize,
 ) -> Read
-    requires { ⌜ Passable (now file) (now decl) start p ⌝ }
-    ensures { λ r. ⌜ Passed (now (file .entry)) (now (decl .entry)) start result slots p (now (calls .entry)) (now (fault .entry)) (now (place .entry)) (now (calls .exit)) (now (fault .exit)) (now (place .exit)) r ⌝ }
+    requires { ⌜ Passable (now file) (now decl) at p ⌝ }
+    ensures { λ r. ⌜ Passed (now (file .entry)) (now (decl .entry)) at result slots p (now (calls .entry)) (now (fault .entry)) (now (place .entry)) (now (calls .exit)) (now (fault .exit)) (now (place .exit)) r ⌝ }
 {
-    let mut inner = slots;
-    let mut at = start;
-    let mut path = p;
-    if plain_stands(file, start) {
-        let row = plain_row(file, start, slots, p);
-        inner = row.slots;
-        at = row.at;
-        path = row.path;
-    }
-    let n = read_node(file, decl, at, path);
+    let n = read_node(file, decl, at, p);
     let then = n.then;
     match then {
         Then::Fault(number, there) => {
@@ -202,8 +92,9 @@ fn check_term(
         }
         _ => {}
     }
-    let bound = path.slots;
+    let bound = p.slots;
     let after = n.path;
+    let mut inner = slots;
     let m = mark(file, at);
     let one_at = first_place(m, at);
     let two_at = second_place(m, at);

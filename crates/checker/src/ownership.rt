@@ -351,14 +351,7 @@ fn take_one(file: &[u8], place: usize, kind: Kind, want: Want, bound: usize) -> 
 }
 
 // AR: two numbers, by their kinds.
-pub(crate) fn take_pair(
-    file: &[u8],
-    p: usize,
-    q: usize,
-    first: Kind,
-    second: Kind,
-    bound: usize,
-) -> Taken
+fn take_pair(file: &[u8], p: usize, q: usize, first: Kind, second: Kind, bound: usize) -> Taken
     requires { ⌜ (bound ≤ 32) × (p < length (now file)) × (q < length (now file)) ⌝ }
     ensures { λ r. ⌜ r ≡ twoOf (now (file .entry)) p q first second bound ⌝ }
 {

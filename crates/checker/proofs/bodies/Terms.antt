@@ -21,7 +21,6 @@ use Rattle.checker.specs.declared.reading.Then.the-variants as then
 use Rattle.checker.specs.declared.reading.Read.{Read}
 use Rattle.checker.specs.declared.reading.Read.the-variants.{Next, Fault}
 use Rattle.checker.specs.declared.ownership.Taken.{Taken}
-use Rattle.checker.specs.declared.bodies.Plain.{Plain}
 use Rattle.checker.specs.Bits.{bitsOf}
 use Rattle.checker.specs.Slots.{keptOf}
 use Rattle.checker.specs.Ownership.{takesMany, takenOf, kindBy, thenOf, creditsOf, branchOf, repeatOf}
@@ -29,7 +28,7 @@ use Rattle.checker.specs.Noting.{noteAt}
 use Rattle.checker.specs.OwnershipReady.{Judged, Noted, JudgedAll, NotedAll, Made}
 use Rattle.checker.specs.ReadingBytes.{path, nodeAt, branchAt}
 use Rattle.checker.specs.Reads.{on, ReadsTerm, ReadsBranches}
-use Rattle.checker.specs.Bodies.{Passable, Plainly, faultAfter, placeAfter, Told, Passed, PassedTwo, one, both, PassedAll}
+use Rattle.checker.specs.Bodies.{Passable, faultAfter, placeAfter, Told, Passed, PassedTwo, one, both, PassedAll}
 use Rattle.checker.proofs.reading.Then as then-type
 use Rattle.checker.proofs.reading.Steps.{fault-next, Fine, goes, leaf-of, one-of, two-of, many-of, fault-of, from-le, from-next, from-off, branch-off, pred-is}
 use Rattle.checker.proofs.reading.Steps as steps
@@ -40,47 +39,28 @@ use Rattle.checker.proofs.ownership.Branching as branching
 use Rattle.checker.proofs.bodies.Meeting.{NodeRead, BranchRead, branch-read}
 use Rattle.checker.proofs.bodies.Telling.{none-told, told-on, told-past, told-both}
 
--- a row of no nodes
-pub none-plain : {f d : List ℕ} {at : ℕ} {slots : List Slot} {p : Path} → Passable f d at p → length slots ≡ 32 → Plainly f at slots p (record { at = at; slots = slots; path = p })
-none-plain k wide = record {
-  later = omega arith;
-  inside = k .inside;
-  wide = wide;
-  few-slots = k .slots;
-  few-nodes = k .nodes;
-  reads = λ d q x. x;
-  judged = λ d result c x. x;
-  noted = λ d result w w′ x. x;
-}
-
--- the same row, told by its parts
-pub same-plain : {f : List ℕ} {at : ℕ} {slots : List Slot} {p q : Path} {r : Plain} {a : ℕ} {inner : List Slot} → Plainly f at slots p r → inner ≡ r .slots → a ≡ r .at → q ≡ r .path
-    → Plainly f at slots p (record { at = a; slots = inner; path = q })
-same-plain g es ea ep = rw (es, ea, ep) g
-
--- the node behind a row of plain nodes
-pub record NodeMet (f d : List ℕ) (start : ℕ) (slots : List Slot) (p : Path) (r : Plain) (n : Node) : Type 0 where
-  pub passable : Passable f d start p
-  pub row : Plainly f start slots p r
-  pub node : n ≡ nodeAt f d (r .at) (r .path)
+-- the node at a place
+pub record NodeMet (f d : List ℕ) (at : ℕ) (p : Path) (n : Node) : Type 0 where
+  pub passable : Passable f d at p
+  pub node : n ≡ nodeAt f d at p
 
 -- a node whose tag is that of no fault
 pub no-fault : (t : Then) → OneOf (0 ∷ 1 ∷ 2 ∷ 3 ∷ []) (tagOf then-type.the-type t) → (x q : ℕ) → t ≡ then.Fault x q → ⊥
 no-fault t h x q e = miss (0 ∷ 1 ∷ 2 ∷ 3 ∷ []) 4 tt (subst (λ v. OneOf (0 ∷ 1 ∷ 2 ∷ 3 ∷ []) (tagOf then-type.the-type v)) e h)
 
-module _ {f d : List ℕ} {start : ℕ} {slots : List Slot} {p : Path} {r : Plain} {n : Node} (g : NodeMet f d start slots p r n) where
-  met-goes : Fine f (r .at) n
-  met-goes = goes f d (r .at) (r .path) n (g .node) (g .row .inside) (g .row .few-slots) (g .row .few-nodes)
+module _ {f d : List ℕ} {at : ℕ} {p : Path} {n : Node} (g : NodeMet f d at p n) where
+  met-goes : Fine f at n
+  met-goes = goes f d at p n (g .node) (g .passable .inside) (g .passable .slots) (g .passable .nodes)
 
   -- where a node is: a place and slots within the limits
-  pub met-low : (r .at ≤ 4096) × (r .path .slots ≤ 32) × (length d ≡ 128)
-  met-low = (omega (arith, g .row .inside, g .passable .small), g .row .few-slots, g .passable .wide)
+  pub met-low : (at ≤ 4096) × (p .slots ≤ 32) × (length d ≡ 128)
+  met-low = (omega (arith, g .passable .inside, g .passable .small), g .passable .slots, g .passable .wide)
 
   -- a node that does not read, whatever is noted
-  pub fault-passed : {result w x q w′ x′ q′ k s : ℕ} → n .then ≡ then.Fault k s → Passed f d start result slots p w x q w′ x′ q′ (Fault k s)
+  pub fault-passed : {result : ℕ} {slots : List Slot} {w x q w′ x′ q′ k s : ℕ} → n .then ≡ then.Fault k s → Passed f d at result slots p w x q w′ x′ q′ (Fault k s)
   fault-passed {k = k} {s = s} e = record {
     from = fault-of e (met-goes .ahead);
-    reads = g .row .reads d _ (steps.fault-reads f d (r .at) (r .path) (g .row .inside) n (g .node) k s e);
+    reads = steps.fault-reads f d at p (g .passable .inside) n (g .node) k s e;
     told = λ m o. fault-next o;
   }
 
@@ -98,114 +78,111 @@ unfolding takesMany noteAt
 none-noted f at m w e = neither (eqb m 4) (eqb m 6) (eqb m 7) (eqb m 8) _ _ w e
 
 -- ---- a node that was taken, its call noted and its fault: one law for each way to go on
-pub record NodeMade (f d : List ℕ) (start result : ℕ) (slots : List Slot) (p : Path) (r : Plain) (n : Node) (inner : List Slot) (w x q v y z : ℕ) : Type 0 where
-  pub met : NodeMet f d start slots p r n
-  pub read : NodeRead f d (r .at) (r .path) n
+pub record NodeMade (f d : List ℕ) (at result : ℕ) (slots : List Slot) (p : Path) (n : Node) (inner : List Slot) (w x q v y z : ℕ) : Type 0 where
+  pub met : NodeMet f d at p n
+  pub wide : length slots ≡ 32
+  pub read : NodeRead f d at p n
   pub mark : ℕ
   pub taken : Taken
-  pub is-mark : mark ≡ findMark (markAt f (r .at))
-  pub takes : taken ≡ takenOf f d (r .at) (r .slots) (r .path .slots) mark result
-  pub kept : inner ≡ keptOf (r .slots) (taken .spent) (r .path .slots) (n .path .slots) (kindBy f d (r .at) mark) (r .at)
-  pub noted : v ≡ noteAt f (r .at) mark w
+  pub is-mark : mark ≡ findMark (markAt f at)
+  pub takes : taken ≡ takenOf f d at slots (p .slots) mark result
+  pub kept : inner ≡ keptOf slots (taken .spent) (p .slots) (n .path .slots) (kindBy f d at mark) at
+  pub noted : v ≡ noteAt f at mark w
   pub fault : y ≡ faultAfter x (taken .number)
   pub place : z ≡ placeAfter x q (taken .number) (taken .place)
 
-module _ {f d : List ℕ} {start result : ℕ} {slots : List Slot} {p : Path} {r : Plain} {n : Node} {inner : List Slot} {w x q v y z : ℕ}
-    (g : NodeMade f d start result slots p r n inner w x q v y z) where
-  row : Plainly f start slots p r
-  row = g .met .row
-
-  fine : Fine f (r .at) n
+module _ {f d : List ℕ} {at result : ℕ} {slots : List Slot} {p : Path} {n : Node} {inner : List Slot} {w x q v y z : ℕ}
+    (g : NodeMade f d at result slots p n inner w x q v y z) where
+  fine : Fine f at n
   fine = met-goes (g .met)
 
-  made : g .taken .number ≡ 0 → Made f d (r .at) result (r .slots) (r .path .slots) (g .mark) (g .taken) (n .path .slots) inner (n .then)
+  made : g .taken .number ≡ 0 → Made f d at result slots (p .slots) (g .mark) (g .taken) (n .path .slots) inner (n .then)
   made o = record {
-    wide = row .wide;
+    wide = g .wide;
     mark = g .is-mark;
     taken = g .takes;
     fine = o;
-    count = g .read .slots ∙ ap (λ m. r .path .slots + rowAt m .binds) (sym (g .is-mark));
+    count = g .read .slots ∙ ap (λ m. p .slots + rowAt m .binds) (sym (g .is-mark));
     kept = g .kept;
-    follows = g .read .follows ∙ ap (thenOf f d (r .at)) (sym (g .is-mark));
+    follows = g .read .follows ∙ ap (thenOf f d at) (sym (g .is-mark));
   }
 
   -- what is noted of the term, from what is noted of the rest where the node has no fault
-  past : {J : Read → Type 0} {M : Type 0} {m w′ x′ q′ : ℕ} → (g .taken .number ≡ 0 → (c : Read) → J c → Judged f d (r .at) result (r .slots) (r .path .slots) c)
-      → (g .taken .number ≡ 0 → M → Noted f d (r .at) result (r .path .slots) w w′) → Told J M m y z x′ q′
-      → Told (Judged f d start result slots (p .slots)) (Noted f d start result (p .slots) w w′) m x q x′ q′
+  past : {J : Read → Type 0} {M : Type 0} {m w′ x′ q′ : ℕ} → (g .taken .number ≡ 0 → (c : Read) → J c → Judged f d at result slots (p .slots) c)
+      → (g .taken .number ≡ 0 → M → Noted f d at result (p .slots) w w′) → Told J M m y z x′ q′
+      → Told (Judged f d at result slots (p .slots)) (Noted f d at result (p .slots) w w′) m x q x′ q′
   past {w′ = w′} j h t =
-      told-on (row .judged d result) (row .noted d result w w′) (told-past (g .fault) (g .place) j (node-stops (row .wide) (g .is-mark) (g .takes)) h t)
+      told-past (g .fault) (g .place) j (node-stops (g .wide) (g .is-mark) (g .takes)) h t
 
   -- a place behind the node's, from which on its path holds
-  ahead : (a : ℕ) → r .at < a → a ≤ length f → (start < a) × Passable f d a (n .path)
+  ahead : (a : ℕ) → at < a → a ≤ length f → (at < a) × Passable f d a (n .path)
   ahead a l h = (
-    omega (arith, row .later),
+    omega arith,
     record { small = g .met .passable .small; wide = g .met .passable .wide; inside = h; slots = fine .slots; nodes = fine .nodes },
   )
 
-  pub leaf-passed : {a : ℕ} → n .then ≡ then.Leaf a → Passed f d start result slots p w x q v y z (Next a)
+  pub leaf-passed : {a : ℕ} → n .then ≡ then.Leaf a → Passed f d at result slots p w x q v y z (Next a)
   leaf-passed {a} e =
       let k = leaf-of e (fine .ahead) in
-      let l : start + 1 ≤ a = omega (arith, k .0, row .later) in
+      let l : at + 1 ≤ a = omega (arith, k .0) in
       record {
         from = on l (k .1);
-        reads = row .reads d _ (steps.leaf-reads f d (r .at) (r .path) (row .inside) n (g .met .node) a e);
+        reads = steps.leaf-reads f d at p (g .met .passable .inside) n (g .met .node) a e;
         told = λ m o.
-            past (λ i c h. subst (Judged f d (r .at) result (r .slots) (r .path .slots)) (o ∙ sym h) (leaf-judged (made i) e)) (λ i _. leaf-noted (made i) e (g .noted)) none-told;
+            past (λ i c h. subst (Judged f d at result slots (p .slots)) (o ∙ sym h) (leaf-judged (made i) e)) (λ i _. leaf-noted (made i) e (g .noted)) none-told;
       }
 
   -- one term
-  pub one-passable : {a : ℕ} → n .then ≡ then.One a → (start < a) × Passable f d a (n .path)
+  pub one-passable : {a : ℕ} → n .then ≡ then.One a → (at < a) × Passable f d a (n .path)
   one-passable {a} e = let k = one-of e (fine .ahead) in ahead a (k .0) (k .1)
 
-  pub one-passed : {a w′ x′ q′ : ℕ} {c : Read} → n .then ≡ then.One a → Passed f d a result inner (n .path) v y z w′ x′ q′ c → Passed f d start result slots p w x q w′ x′ q′ c
+  pub one-passed : {a w′ x′ q′ : ℕ} {c : Read} → n .then ≡ then.One a → Passed f d a result inner (n .path) v y z w′ x′ q′ c → Passed f d at result slots p w x q w′ x′ q′ c
   one-passed {a} {c = c} e h =
       let k = one-of e (fine .ahead) in
       record {
-        from = from-le (omega (arith, k .0, row .later)) (h .from);
-        reads = row .reads d c (steps.one-reads f d (r .at) (r .path) (row .inside) n (g .met .node) a c e (k .0) (k .1) (h .reads));
+        from = from-le (omega (arith, k .0)) (h .from);
+        reads = steps.one-reads f d at p (g .met .passable .inside) n (g .met .node) a c e (k .0) (k .1) (h .reads);
         told = λ m o. past (λ i c. one-judged (made i) e) (λ i. one-noted (made i) e (g .noted)) (h .told m o);
       }
 
   -- two terms, one after the other
-  pub two-passable : {a : ℕ} → n .then ≡ then.Two a → (start < a) × Passable f d a (n .path)
+  pub two-passable : {a : ℕ} → n .then ≡ then.Two a → (at < a) × Passable f d a (n .path)
   two-passable {a} e = let k = two-of e (fine .ahead) in ahead a (k .0) (k .1)
 
-  pub two-passed : {a w′ x′ q′ : ℕ} {c : Read} → n .then ≡ then.Two a → PassedTwo f d a result inner (n .path) v y z w′ x′ q′ c → Passed f d start result slots p w x q w′ x′ q′ c
+  pub two-passed : {a w′ x′ q′ : ℕ} {c : Read} → n .then ≡ then.Two a → PassedTwo f d a result inner (n .path) v y z w′ x′ q′ c → Passed f d at result slots p w x q w′ x′ q′ c
   two-passed {a} e (one {k = i} {s = s} h) =
       let k = two-of e (fine .ahead) in
       record {
-        from = from-le (omega (arith, k .0, row .later)) (h .from);
-        reads = row .reads d _ (steps.two-stops f d (r .at) (r .path) (row .inside) n (g .met .node) a i s e (k .0) (k .1) (h .reads));
+        from = from-le (omega (arith, k .0)) (h .from);
+        reads = steps.two-stops f d at p (g .met .passable .inside) n (g .met .node) a i s e (k .0) (k .1) (h .reads);
         told = λ m o. fault-next o;
       }
   two-passed {a} {w′ = w′} e (both {b = b} {r = c} h i) =
       let k = two-of e (fine .ahead) in
       let l = from-next refl (h .from) in
       record {
-        from = from-le (omega (arith, k .0, l .0, row .later)) (i .from);
-        reads = row .reads d c
-            (steps.two-reads f d (r .at) (r .path) (row .inside) n (g .met .node) a b c e (k .0) (omega (arith, l .0)) (l .1) (h .reads) (i .reads));
+        from = from-le (omega (arith, k .0, l .0)) (i .from);
+        reads = steps.two-reads f d at p (g .met .passable .inside) n (g .met .node) a b c e (k .0) (omega (arith, l .0)) (l .1) (h .reads) (i .reads);
         told = λ m o.
-            past {M = g .taken .number ≡ 0 → Noted f d (r .at) result (r .path .slots) w w′} (λ i c j. j i) (λ i j. j i)
-            (told-both {L = λ c. g .taken .number ≡ 0 → Judged f d (r .at) result (r .slots) (r .path .slots) c} (h .told b refl)
+            past {M = g .taken .number ≡ 0 → Noted f d at result (p .slots) w w′} (λ i c j. j i) (λ i j. j i)
+            (told-both {L = λ c. g .taken .number ≡ 0 → Judged f d at result slots (p .slots) c} (h .told b refl)
             (λ j c c′ i. two-judged (made i) e j refl c′) (λ x q j i. cycle.two-stops (made i) e j refl) (λ j c c′ i. two-noted (made i) e (g .noted) j refl c c′) (i .told m o));
       }
 
   -- branches
-  pub many-passable : {a k credit : ℕ} → n .then ≡ then.Many a k credit → (start < a) × Passable f d a (n .path) × (credit ≤ 1)
+  pub many-passable : {a k credit : ℕ} → n .then ≡ then.Many a k credit → (at < a) × Passable f d a (n .path) × (credit ≤ 1)
   many-passable {a} e =
       let k = many-of e (fine .ahead) in
       let l = ahead a (k .0) (k .1) in
       (l .0, l .1, k .2)
 
   pub many-passed : {a k credit w′ x′ q′ : ℕ} {c : Read} → n .then ≡ then.Many a k credit → PassedAll f d a k credit result inner (n .path) v y z w′ x′ q′ c
-      → Passed f d start result slots p w x q w′ x′ q′ c
+      → Passed f d at result slots p w x q w′ x′ q′ c
   many-passed {a} {k} {credit} {c = c} e h =
       let l = many-of e (fine .ahead) in
       record {
-        from = from-le (omega (arith, l .0, row .later)) (h .from);
-        reads = row .reads d c (steps.many-reads f d (r .at) (r .path) (row .inside) n (g .met .node) a k credit c e (l .0) (l .1) (h .reads));
+        from = from-le (omega (arith, l .0)) (h .from);
+        reads = steps.many-reads f d at p (g .met .passable .inside) n (g .met .node) a k credit c e (l .0) (l .1) (h .reads);
         told = λ m o. past (λ i c. many-judged (made i) e) (λ i. many-noted (made i) e (g .noted)) (h .told m o);
       }
 

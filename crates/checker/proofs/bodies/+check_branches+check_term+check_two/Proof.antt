@@ -13,8 +13,6 @@ use Rattle.checker.proofs.bodies.check_two.Kinds as check-two-kinds
 use Rattle.checker.proofs.bodies.+check_branches+check_term+check_two.Lts-check_two as check-two-lts
 use Rattle.checker.proofs.bodies.note.Reads as note-reads
 use Rattle.checker.proofs.bodies.note_fault.Reads as note-fault-reads
-use Rattle.checker.proofs.bodies.plain_row.Reads as plain-row-reads
-use Rattle.checker.proofs.bodies.plain_stands.Reads as plain-stands-reads
 use Rattle.checker.proofs.ownership.bound_kind.Reads as bound-kind-reads
 use Rattle.checker.proofs.ownership.branch_slots.Reads as branch-slots-reads
 use Rattle.checker.proofs.ownership.byte.Reads as byte-reads
@@ -40,17 +38,16 @@ use Prim.Native.Nat.{_+_, _*_, _-_, _≤_}
 use mathlib.Core.Path.{_≡_, refl, sym, subst, ap, _∙_}
 use mathlib.Core.Logic.{⊎-elim}
 use lib.ListN.{length}
-use Rattle.checker.specs.declared.bodies.Plain.{Plain}
 use Rattle.checker.specs.Bits.{bitsOf}
 use Rattle.checker.specs.Slots.{spentBy, keptOf}
 use Rattle.checker.specs.Ownership.{takenOf, kindBy}
 use Rattle.checker.specs.Noting.{noteAt}
-use Rattle.checker.specs.Bodies.{Plainly, faultAfter, placeAfter}
+use Rattle.checker.specs.Bodies.{faultAfter, placeAfter}
 use Rattle.checker.proofs.reading.Steps.{pred-is}
 use Rattle.checker.proofs.ownership.Naming.{names-taken, many-taken}
 use Rattle.checker.proofs.ownership.Turns.{kept-turn, kept-none, kept-bound, kept-all}
 use Rattle.checker.proofs.bodies.Meeting.{NodeRead, node-read, branch-read}
-use Rattle.checker.proofs.bodies.Terms.{none-plain, same-plain, NodeMet, no-fault, met-low, fault-passed, none-noted, NodeMade, leaf-passed, one-passable, one-passed, two-passable, two-passed, many-passable, many-passed, second-passable, two-both, two-one, Walked, none-walked, end-passed, branch-faults, Branched, branch-passable, term-faults, branch-walked}
+use Rattle.checker.proofs.bodies.Terms.{NodeMet, no-fault, met-low, fault-passed, none-noted, NodeMade, leaf-passed, one-passable, one-passed, two-passable, two-passed, many-passable, many-passed, second-passable, two-both, two-one, Walked, none-walked, end-passed, branch-faults, Branched, branch-passable, term-faults, branch-walked}
 
 abbrev μ-check-branches : Measures 5 check-branches-kinds.ps ℕ
 μ-check-branches κs a = 2 * (length (a .0 .now) - a .1 .1 .0)
@@ -102,7 +99,7 @@ abbrev check-branches-calls : ℕ → check-branches-lts.Claims
 check-branches-calls t = (read-branch-reads.Asked, read-branch-reads.Learnt, byte-reads.Asked, byte-reads.Learnt, repeats-reads.Asked, repeats-reads.Learnt, note-fault-reads.Asked, note-fault-reads.Learnt, branch-slots-reads.Asked, branch-slots-reads.Learnt, check-term-below t, check-term.Post, seeing-reads.Asked, seeing-reads.Learnt)
 
 abbrev check-term-calls : ℕ → check-term-lts.Claims
-check-term-calls t = (plain-stands-reads.Asked, plain-stands-reads.Learnt, plain-row-reads.Asked, plain-row-reads.Learnt, read-node-reads.Asked, read-node-reads.Learnt, mark-reads.Asked, mark-reads.Learnt, first-place-reads.Asked, first-place-reads.Learnt, second-place-reads.Asked, second-place-reads.Learnt, slot-index-reads.Asked, slot-index-reads.Learnt, take-named-reads.Asked, take-named-reads.Learnt, takes-many-reads.Asked, takes-many-reads.Learnt, take-many-reads.Asked, take-many-reads.Learnt, note-reads.Asked, note-reads.Learnt, note-fault-reads.Asked, note-fault-reads.Learnt, lowest-reads.Asked, lowest-reads.Learnt, used-reads.Asked, used-reads.Learnt, without-lowest-reads.Asked, without-lowest-reads.Learnt, bound-kind-reads.Asked, bound-kind-reads.Learnt, check-term-below t, check-term.Post, check-two-below t, check-two.Post, check-branches-below t, check-branches.Post)
+check-term-calls t = (read-node-reads.Asked, read-node-reads.Learnt, mark-reads.Asked, mark-reads.Learnt, first-place-reads.Asked, first-place-reads.Learnt, second-place-reads.Asked, second-place-reads.Learnt, slot-index-reads.Asked, slot-index-reads.Learnt, take-named-reads.Asked, take-named-reads.Learnt, takes-many-reads.Asked, takes-many-reads.Learnt, take-many-reads.Asked, take-many-reads.Learnt, note-reads.Asked, note-reads.Learnt, note-fault-reads.Asked, note-fault-reads.Learnt, lowest-reads.Asked, lowest-reads.Learnt, used-reads.Asked, used-reads.Learnt, without-lowest-reads.Asked, without-lowest-reads.Learnt, bound-kind-reads.Asked, bound-kind-reads.Learnt, check-term-below t, check-term.Post, check-two-below t, check-two.Post, check-branches-below t, check-branches.Post)
 
 abbrev check-two-calls : ℕ → check-two-lts.Claims
 check-two-calls t = (check-term-below t, check-term.Post)
@@ -190,81 +187,66 @@ check-branches-returns-3 : (t : ℕ) → check-branches-lts.Need-returns-3 (chec
 check-branches-returns-3 t c = end-passed (c .before .loop .inv) (c .before .before .before .pre .1 .0) (c .loop-test .left)
 
 abbrev check-term-Inv-loop : check-term-lts.InvT-loop
-check-term-Inv-loop file decl start result calls fault place inner₀ at then bound after m one-at two-at todo₀ inner todo = spentBy (bitsOf 32 todo₀) inner₀ ≡ spentBy (bitsOf 32 todo) inner
+check-term-Inv-loop file decl at result calls fault place then bound after inner₀ m one-at two-at todo₀ inner todo = spentBy (bitsOf 32 todo₀) inner₀ ≡ spentBy (bitsOf 32 todo) inner
 
 abbrev check-term-μ-loop : check-term-lts.MeasureT-loop
-check-term-μ-loop file decl start result calls fault place inner₀ at then bound after m one-at two-at todo₀ inner todo = todo
+check-term-μ-loop file decl at result calls fault place then bound after inner₀ m one-at two-at todo₀ inner todo = todo
 
--- the row of plain nodes, which may have none
-abbrev row-of : (t : ℕ) (c : check-term-lts.Joined1 (check-term-calls t) (check-term-at t) check-term.Post check-term-Inv-loop check-term-μ-loop)
-    → Plain
-row-of t c = record { at = c .if1 .at; slots = c .if1 .inner; path = c .if1 .path }
-
-row-met : (t : ℕ) (c : check-term-lts.Joined1 (check-term-calls t) (check-term-at t) check-term.Post check-term-Inv-loop check-term-μ-loop)
-    → let a = c .before .before .before .args in
-    Plainly (a .file .now) (a .start) (a .slots) (a .p) (row-of t c)
-row-met t c = ⊎-elim (λ w. same-plain (w .1 .ensures) (w .4) (w .5) (w .6))
-    (λ w. same-plain (none-plain (c .before .before .before .pre .1) (c .before .before .before .good .1 .1 .1 .1 .0 .1 .0 .1)) (w .1) (w .2) (w .3))
-    (c .if1 .came)
-
--- the node behind the plain ones
+-- the node at the place
 node-met : (t : ℕ) (c : check-term-lts.After-read-node (check-term-calls t) (check-term-at t) check-term.Post check-term-Inv-loop check-term-μ-loop)
-    → let a = c .before .before .before .before .args in
-    NodeMet (a .file .now) (a .decl .now) (a .start) (a .slots) (a .p) (row-of t (c .before)) (c .read-node .result)
-node-met t c = record { passable = c .before .before .before .before .pre .1; row = row-met t (c .before); node = c .read-node .ensures }
+    → let a = c .before .before .args in
+    NodeMet (a .file .now) (a .decl .now) (a .at) (a .p) (c .read-node .result)
+node-met t c = record { passable = c .before .before .pre .1; node = c .read-node .ensures }
 
 -- that node, where it reads
 node-reads : (t : ℕ) (c : check-term-lts.At-match-keys2 (check-term-calls t) (check-term-at t) check-term.Post check-term-Inv-loop check-term-μ-loop)
-    → let a = c .before .before .before .before .before .args in
-    let r = row-of t (c .before .before) in
-    NodeRead (a .file .now) (a .decl .now) (r .at) (r .path) (c .before .read-node .result)
-node-reads t c = node-read (c .before .read-node .ensures) (row-met t (c .before .before) .inside) (no-fault (c .before .read-node .result .then) (c .match .keys2))
+    → let a = c .before .before .before .args in
+    NodeRead (a .file .now) (a .decl .now) (a .at) (a .p) (c .before .read-node .result)
+node-reads t c = node-read (c .before .read-node .ensures) (c .before .before .before .pre .1 .inside) (no-fault (c .before .read-node .result .then) (c .match .keys2))
 
 -- what the node takes
-taken : (t : ℕ) (c : check-term-lts.Joined2 (check-term-calls t) (check-term-at t) check-term.Post check-term-Inv-loop check-term-μ-loop)
-    → let a = c .before .before .before .before .before .before .before .before .before .before .before .before .before .before .before .before .args in
-    let r = row-of t (c .before .before .before .before .before .before .before .before .before .before .before .before .before) in
-    c .if2 .t ≡ takenOf (a .file .now) (a .decl .now) (r .at) (r .slots) (r .path .slots) (c .before .before .before .before .before .before .before .before .before .mark .result) (a .result)
+taken : (t : ℕ) (c : check-term-lts.Joined1 (check-term-calls t) (check-term-at t) check-term.Post check-term-Inv-loop check-term-μ-loop)
+    → let a = c .before .before .before .before .before .before .before .before .before .before .before .before .before .before .args in
+    c .if1 .t ≡ takenOf (a .file .now) (a .decl .now) (a .at) (a .slots) (a .p .slots) (c .before .before .before .before .before .before .before .before .before .mark .result) (a .result)
 taken t c =
-    let a = c .before .before .before .before .before .before .before .before .before .before .before .before .before .before .before .before .args in
-    let r = row-of t (c .before .before .before .before .before .before .before .before .before .before .before .before .before) in
-    ⊎-elim (λ w. w .5 ∙ w .1 .ensures ∙ many-taken (a .file .now) (a .decl .now) (r .at) (r .slots) (r .path .slots) (c .before .before .before .before .before .before .before .before .before .mark .result) (a .result) (sym (c .before .takes-many .ensures) ∙ w .0 .taken))
-    (λ w. w .2 ∙ c .before .before .take-named .ensures ∙ names-taken (a .file .now) (a .decl .now) (r .at) (r .slots) (r .path .slots) (row-met t (c .before .before .before .before .before .before .before .before .before .before .before .before .before) .few-slots) (a .result) (c .before .before .before .before .before .before .before .before .before .mark .result) (sym (c .before .takes-many .ensures) ∙ w .0 .left)
+    let a = c .before .before .before .before .before .before .before .before .before .before .before .before .before .before .args in
+    ⊎-elim (λ w. w .5 ∙ w .1 .ensures ∙ many-taken (a .file .now) (a .decl .now) (a .at) (a .slots) (a .p .slots) (c .before .before .before .before .before .before .before .before .before .mark .result) (a .result) (sym (c .before .takes-many .ensures) ∙ w .0 .taken))
+    (λ w. w .2 ∙ c .before .before .take-named .ensures ∙ names-taken (a .file .now) (a .decl .now) (a .at) (a .slots) (a .p .slots) (c .before .before .before .before .before .before .before .before .before .before .before .before .before .before .pre .1 .slots) (a .result) (c .before .before .before .before .before .before .before .before .before .mark .result) (sym (c .before .takes-many .ensures) ∙ w .0 .left)
     (c .before .before .before .before .before .before .before .before .first-place .result) (c .before .before .before .before .before .before .before .second-place .result) (c .before .before .before .before .before .before .before .before .first-place .ensures) (c .before .before .before .before .before .before .before .second-place .ensures) (c .before .before .before .before .before .before .slot-index .result) (c .before .before .before .before .slot-index2 .result) _ _ (c .before .before .before .before .before .before .slot-index .ensures .0) refl (c .before .before .before .before .slot-index2 .ensures .0) refl)
-    (c .if2 .came)
+    (c .if1 .came)
 
 -- and what it calls
-noted : (t : ℕ) (c : check-term-lts.Joined2 (check-term-calls t) (check-term-at t) check-term.Post check-term-Inv-loop check-term-μ-loop)
-    → let a = c .before .before .before .before .before .before .before .before .before .before .before .before .before .before .before .before .args in
-    c .if2 .calls ≡ noteAt (a .file .now) (c .before .before .before .before .before .before .before .before .before .before .before .before .before .if1 .at) (c .before .before .before .before .before .before .before .before .before .mark .result) (a .calls .now)
+noted : (t : ℕ) (c : check-term-lts.Joined1 (check-term-calls t) (check-term-at t) check-term.Post check-term-Inv-loop check-term-μ-loop)
+    → let a = c .before .before .before .before .before .before .before .before .before .before .before .before .before .before .args in
+    c .if1 .calls ≡ noteAt (a .file .now) (a .at) (c .before .before .before .before .before .before .before .before .before .mark .result) (a .calls .now)
 noted t c =
-    let a = c .before .before .before .before .before .before .before .before .before .before .before .before .before .before .before .before .args in
-    ⊎-elim {C = c .if2 .calls ≡ noteAt (a .file .now) (c .before .before .before .before .before .before .before .before .before .before .before .before .before .if1 .at) (c .before .before .before .before .before .before .before .before .before .mark .result) (a .calls .now)} (λ w. w .4 ∙ w .3 .ensures)
-    (λ w. w .1 ∙ sym (none-noted (a .file .now) (c .before .before .before .before .before .before .before .before .before .before .before .before .before .if1 .at) (c .before .before .before .before .before .before .before .before .before .mark .result) (a .calls .now) (sym (c .before .takes-many .ensures) ∙ w .0 .left)))
-    (c .if2 .came)
+    let a = c .before .before .before .before .before .before .before .before .before .before .before .before .before .before .args in
+    ⊎-elim {C = c .if1 .calls ≡ noteAt (a .file .now) (a .at) (c .before .before .before .before .before .before .before .before .before .mark .result) (a .calls .now)} (λ w. w .4 ∙ w .3 .ensures)
+    (λ w. w .1 ∙ sym (none-noted (a .file .now) (a .at) (c .before .before .before .before .before .before .before .before .before .mark .result) (a .calls .now) (sym (c .before .takes-many .ensures) ∙ w .0 .left)))
+    (c .if1 .came)
 
 -- what the node leaves and binds, with its fault noted
-made : (t : ℕ) (c : check-term-lts.Joined3 (check-term-calls t) (check-term-at t) check-term.Post check-term-Inv-loop check-term-μ-loop)
-    → let a = c .before .before .before .before .before .before .before .before .before .before .before .before .before .before .before .before .before .before .before .before .before .before .before .args in
-    NodeMade (a .file .now) (a .decl .now) (a .start) (a .result) (a .slots) (a .p) (row-of t (c .before .before .before .before .before .before .before .before .before .before .before .before .before .before .before .before .before .before .before .before)) (c .before .before .before .before .before .before .before .before .before .before .before .before .before .before .before .before .before .before .before .read-node .result) (c .if3 .inner) (a .calls .now) (a .fault .now) (a .place .now) (c .before .before .before .before .before .before .before .if2 .calls) (c .before .before .before .before .note-fault .last .0) (c .before .before .before .before .note-fault .last .1 .0)
+made : (t : ℕ) (c : check-term-lts.Joined2 (check-term-calls t) (check-term-at t) check-term.Post check-term-Inv-loop check-term-μ-loop)
+    → let a = c .before .before .before .before .before .before .before .before .before .before .before .before .before .before .before .before .before .before .before .before .before .args in
+    NodeMade (a .file .now) (a .decl .now) (a .at) (a .result) (a .slots) (a .p) (c .before .before .before .before .before .before .before .before .before .before .before .before .before .before .before .before .before .before .before .read-node .result) (c .if2 .inner) (a .calls .now) (a .fault .now) (a .place .now) (c .before .before .before .before .before .before .before .if1 .calls) (c .before .before .before .before .note-fault .last .0) (c .before .before .before .before .note-fault .last .1 .0)
 made t c =
-    let a = c .before .before .before .before .before .before .before .before .before .before .before .before .before .before .before .before .before .before .before .before .before .before .before .args in
-    let r = row-of t (c .before .before .before .before .before .before .before .before .before .before .before .before .before .before .before .before .before .before .before .before) in
+    let a = c .before .before .before .before .before .before .before .before .before .before .before .before .before .before .before .before .before .before .before .before .before .args in
     let l = c .before .before .before .loop in
     let more = c .before .before .before .before .before .before .before .before .before .before .before .before .before .before .before .before .before .before .before .read-node .result .path .slots in
-    let gone = c .before .before .before .before .before .before .before .if2 .t .spent in
-    let spent : spentBy (bitsOf 32 gone) (r .slots) ≡ l .inner = l .inv ∙ kept-none (l .inner) (l .todo) (c .before .before .loop-test .left) in
-    let kind = kindBy (a .file .now) (a .decl .now) (r .at) (c .before .before .before .before .before .before .before .before .before .before .before .before .before .before .before .before .mark .result) in
-    let kept : c .if3 .inner ≡ keptOf (r .slots) gone (r .path .slots) more kind (r .at) =
-    ⊎-elim {C = c .if3 .inner ≡ keptOf (r .slots) gone (r .path .slots) more kind (r .at)} (λ w. w .3 ∙ kept-bound (r .slots) (l .inner) gone (r .path .slots) more (w .1 .result) (r .at) spent (w .0 .taken)
-    ∙ ap (λ x. keptOf (r .slots) gone (r .path .slots) more x (r .at)) (w .1 .ensures))
-    (λ w. w .1 ∙ kept-all (r .slots) (l .inner) gone (r .path .slots) more kind (r .at) spent (w .0 .left))
-    (c .if3 .came) in
+    let gone = c .before .before .before .before .before .before .before .if1 .t .spent in
+    let spent : spentBy (bitsOf 32 gone) (a .slots) ≡ l .inner = l .inv ∙ kept-none (l .inner) (l .todo) (c .before .before .loop-test .left) in
+    let kind = kindBy (a .file .now) (a .decl .now) (a .at) (c .before .before .before .before .before .before .before .before .before .before .before .before .before .before .before .before .mark .result) in
+    let kept : c .if2 .inner ≡ keptOf (a .slots) gone (a .p .slots) more kind (a .at) =
+    ⊎-elim {C = c .if2 .inner ≡ keptOf (a .slots) gone (a .p .slots) more kind (a .at)} (λ w. w .2 ∙ kept-bound (a .slots) (l .inner) gone (a .p .slots) more (w .1 .result) (a .at) spent (w .0 .taken)
+    ∙ ap (λ x. keptOf (a .slots) gone (a .p .slots) more x (a .at)) (w .1 .ensures))
+    (λ w. w .1 ∙ kept-all (a .slots) (l .inner) gone (a .p .slots) more kind (a .at) spent (w .0 .left))
+    (c .if2 .came) in
     record {
       met = node-met t (c .before .before .before .before .before .before .before .before .before .before .before .before .before .before .before .before .before .before .before);
+      wide = c .before .before .before .before .before .before .before .before .before .before .before .before .before .before .before .before .before .before .before .before .before .good .1 .1 .1 .1 .0 .1 .0 .1;
       read = node-reads t (c .before .before .before .before .before .before .before .before .before .before .before .before .before .before .before .before .before .before);
       mark = c .before .before .before .before .before .before .before .before .before .before .before .before .before .before .before .before .mark .result;
-      taken = c .before .before .before .before .before .before .before .if2 .t;
+      taken = c .before .before .before .before .before .before .before .if1 .t;
       is-mark = c .before .before .before .before .before .before .before .before .before .before .before .before .before .before .before .before .mark .ensures;
       takes = taken t (c .before .before .before .before .before .before .before);
       kept = kept;
@@ -273,14 +255,8 @@ made t c =
       place = c .before .before .before .before .note-fault .ensures .1;
     }
 
-check-term-plain-stands-requires : (t : ℕ) → check-term-lts.Need-plain-stands-requires (check-term-calls t) (check-term-at t) check-term.Post check-term-Inv-loop check-term-μ-loop
-check-term-plain-stands-requires t c κs = let k = c .before .pre .1 in omega (arith, k .small, k .inside)
-
-check-term-plain-row-requires : (t : ℕ) → check-term-lts.Need-plain-row-requires (check-term-calls t) (check-term-at t) check-term.Post check-term-Inv-loop check-term-μ-loop
-check-term-plain-row-requires t c κs = let k = c .before .before .before .pre .1 in (k .small, k .inside, k .slots, k .nodes)
-
 check-term-read-node-requires : (t : ℕ) → check-term-lts.Need-read-node-requires (check-term-calls t) (check-term-at t) check-term.Post check-term-Inv-loop check-term-μ-loop
-check-term-read-node-requires t c κs = let w = row-met t (c) in (w .inside, w .few-slots, w .few-nodes)
+check-term-read-node-requires t c κs = let k = c .before .pre .1 in (k .inside, k .slots, k .nodes)
 
 check-term-enum-known-then : (t : ℕ) → check-term-lts.Need-enum-known-then (check-term-calls t) (check-term-at t) check-term.Post check-term-Inv-loop check-term-μ-loop
 check-term-enum-known-then t c = search needs
@@ -363,14 +339,14 @@ check-term-loop-again t c = c .before .before .before .before .before .loop .inv
 check-term-bound-kind-requires : (t : ℕ) → check-term-lts.Need-bound-kind-requires (check-term-calls t) (check-term-at t) check-term.Post check-term-Inv-loop check-term-μ-loop
 check-term-bound-kind-requires t c κs = let l = met-low (node-met t (c .before .before .before .before .before .before .before .before .before .before .before .before .before .before .before .before .before .before .before)) in (l .0, l .2)
 
-check-term-cast-t65 : (t : ℕ) → check-term-lts.Need-cast-t65 (check-term-calls t) (check-term-at t) check-term.Post check-term-Inv-loop check-term-μ-loop
-check-term-cast-t65 t c = let l = met-low (node-met t (c .before .before .before .before .before .before .before .before .before .before .before .before .before .before .before .before .before .before .before .before .before)) in omega (arith, l .0)
+check-term-cast-t61 : (t : ℕ) → check-term-lts.Need-cast-t61 (check-term-calls t) (check-term-at t) check-term.Post check-term-Inv-loop check-term-μ-loop
+check-term-cast-t61 t c = let l = met-low (node-met t (c .before .before .before .before .before .before .before .before .before .before .before .before .before .before .before .before .before .before .before .before)) in omega (arith, l .0)
 
 check-term-mul-inner-2 : (t : ℕ) → check-term-lts.Need-mul-inner-2 (check-term-calls t) (check-term-at t) check-term.Post check-term-Inv-loop check-term-μ-loop
-check-term-mul-inner-2 t c = let l = met-low (node-met t (c .before .before .before .before .before .before .before .before .before .before .before .before .before .before .before .before .before .before .before .before .before)) in omega (arith, l .1)
+check-term-mul-inner-2 t c = let l = met-low (node-met t (c .before .before .before .before .before .before .before .before .before .before .before .before .before .before .before .before .before .before .before .before)) in omega (arith, l .1)
 
 check-term-array-set-from-inner-2 : (t : ℕ) → check-term-lts.Need-array-set-from-inner-2 (check-term-calls t) (check-term-at t) check-term.Post check-term-Inv-loop check-term-μ-loop
-check-term-array-set-from-inner-2 t c = let w = node-reads t (c .before .before .before .before .before .before .before .before .before .before .before .before .before .before .before .before .before .before .before .before) in omega (arith, c .before .before .if3 .taken, w .fits)
+check-term-array-set-from-inner-2 t c = let w = node-reads t (c .before .before .before .before .before .before .before .before .before .before .before .before .before .before .before .before .before .before .before) in omega (arith, c .before .if2 .taken, w .fits)
 
 check-term-enum-known-then-2 : (t : ℕ) → check-term-lts.Need-enum-known-then-2 (check-term-calls t) (check-term-at t) check-term.Post check-term-Inv-loop check-term-μ-loop
 check-term-enum-known-then-2 t c = search needs
@@ -379,19 +355,19 @@ check-term-enum-known-then-3 : (t : ℕ) → check-term-lts.Need-enum-known-then
 check-term-enum-known-then-3 t c = search needs
 
 check-term-check-term-requires : (t : ℕ) → check-term-lts.Need-check-term-requires (check-term-calls t) (check-term-at t) check-term.Post check-term-Inv-loop check-term-μ-loop
-check-term-check-term-requires t c κs = let x = one-passable (made t (c .before .before .before .before .before .before)) (c .before .before .before .before .then3 .given .1) in (omega (arith, c .before .before .before .before .before .before .before .before .before .before .before .before .before .before .before .before .before .before .before .before .before .before .before .before .before .before .before .before .before .pre .0, x .0, x .1 .inside), x .1)
+check-term-check-term-requires t c κs = let x = one-passable (made t (c .before .before .before .before .before .before)) (c .before .before .before .before .then3 .given .1) in (omega (arith, c .before .before .before .before .before .before .before .before .before .before .before .before .before .before .before .before .before .before .before .before .before .before .before .before .before .before .before .pre .0, x .0, x .1 .inside), x .1)
 
 check-term-enum-known-then-4 : (t : ℕ) → check-term-lts.Need-enum-known-then-4 (check-term-calls t) (check-term-at t) check-term.Post check-term-Inv-loop check-term-μ-loop
 check-term-enum-known-then-4 t c = search needs
 
 check-term-check-two-requires : (t : ℕ) → check-term-lts.Need-check-two-requires (check-term-calls t) (check-term-at t) check-term.Post check-term-Inv-loop check-term-μ-loop
-check-term-check-two-requires t c κs = let x = two-passable (made t (c .before .before .before .before .before .before)) (c .before .before .before .before .then4 .given .1) in (omega (arith, c .before .before .before .before .before .before .before .before .before .before .before .before .before .before .before .before .before .before .before .before .before .before .before .before .before .before .before .before .before .pre .0, x .0, x .1 .inside), x .1)
+check-term-check-two-requires t c κs = let x = two-passable (made t (c .before .before .before .before .before .before)) (c .before .before .before .before .then4 .given .1) in (omega (arith, c .before .before .before .before .before .before .before .before .before .before .before .before .before .before .before .before .before .before .before .before .before .before .before .before .before .before .before .pre .0, x .0, x .1 .inside), x .1)
 
 check-term-enum-known-then-5 : (t : ℕ) → check-term-lts.Need-enum-known-then-5 (check-term-calls t) (check-term-at t) check-term.Post check-term-Inv-loop check-term-μ-loop
 check-term-enum-known-then-5 t c = search needs
 
 check-term-check-branches-requires : (t : ℕ) → check-term-lts.Need-check-branches-requires (check-term-calls t) (check-term-at t) check-term.Post check-term-Inv-loop check-term-μ-loop
-check-term-check-branches-requires t c κs = let x = many-passable (made t (c .before .before .before .before .before .before)) (c .before .before .before .before .then5 .given .1) in (omega (arith, c .before .before .before .before .before .before .before .before .before .before .before .before .before .before .before .before .before .before .before .before .before .before .before .before .before .before .before .before .before .pre .0, x .0, x .1 .inside), (x .1, x .2))
+check-term-check-branches-requires t c κs = let x = many-passable (made t (c .before .before .before .before .before .before)) (c .before .before .before .before .then5 .given .1) in (omega (arith, c .before .before .before .before .before .before .before .before .before .before .before .before .before .before .before .before .before .before .before .before .before .before .before .before .before .before .before .pre .0, x .0, x .1 .inside), (x .1, x .2))
 
 check-term-enum-known-then-6 : (t : ℕ) → check-term-lts.Need-enum-known-then-6 (check-term-calls t) (check-term-at t) check-term.Post check-term-Inv-loop check-term-μ-loop
 check-term-enum-known-then-6 t c = search needs
@@ -472,8 +448,6 @@ pub +check-branches+check-term+check-two-spec : {M : Type 1} → statement M
     check-term.Post
     check-term-Inv-loop
     check-term-μ-loop
-    (check-term-plain-stands-requires t)
-    (check-term-plain-row-requires t)
     (check-term-read-node-requires t)
     (check-term-enum-known-then t)
     (check-term-returns t)
@@ -502,7 +476,7 @@ pub +check-branches+check-term+check-two-spec : {M : Type 1} → statement M
     (check-term-loop-less t)
     (check-term-loop-again t)
     (check-term-bound-kind-requires t)
-    (check-term-cast-t65 t)
+    (check-term-cast-t61 t)
     (check-term-mul-inner-2 t)
     (check-term-array-set-from-inner-2 t)
     (check-term-enum-known-then-2 t)
