@@ -5,6 +5,7 @@ pub mod Cycle
 pub mod Steps
 pub mod Tabled
 pub mod Places
+pub mod Heads
 pub mod Header
 pub mod Opened
 pub mod Body

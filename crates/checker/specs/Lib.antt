@@ -6,6 +6,7 @@ pub mod Levels
 pub mod Noting
 pub mod Slots
 pub mod Ownership
+pub mod Paths
 pub mod OwnershipReady
 pub mod Bodies
 pub mod Judging

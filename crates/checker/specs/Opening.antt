@@ -14,6 +14,7 @@ use Rattle.checker.specs.declared.reading.Read.the-variants.{Next, Fault
 use Rattle.checker.specs.declared.reading.Reached.{Reached}
 use Rattle.checker.specs.ReadingBytes.{path, knownCount, numberAt, expectAt}
 use Rattle.checker.specs.Reads.{Declares, ReadsTerm}
+use Rattle.checker.specs.Paths.{Head}
 
 -- the table with these constructors and functions, and with the places of these bodies
 unfoldable pub tableWith : List Constructor → List Signature → (places : List ℕ) → List ℕ
@@ -50,6 +51,7 @@ pub record Headed (f d : List ℕ) (k at : ℕ) : Type 0 where
   pub few : length constructors ≤ 64
   pub few-functions : k ≤ 32
   pub place : at ≡ fun-end (con-end 0 constructors) functions
+  pub heads : (g : ℕ) → g < k → Head f d g
   pub reached : length constructors + k ≤ at
   pub inside : at ≤ length f
   pub reads : (m size : ℕ) → header (m + (length constructors + k)) size [] [] 0 f ≡ header m size constructors functions at (drop at f)
@@ -76,6 +78,7 @@ pub record Bodied (f d : List ℕ) (count j at : ℕ) : Type 0 where
   pub functions-count : length functions ≡ count
   pub few : length constructors ≤ 64
   pub few-functions : count ≤ 32
+  pub heads : (g : ℕ) → g < count → Head f d g
   pub done : length terms ≡ j
   pub inside : at ≤ length f
   pub reads : read f ≡ leftOver f constructors functions terms (drop j functions) at

@@ -42,6 +42,7 @@ ghost use lib.ListN.{length, replicate};
 ghost use Rattle.checker.specs.ReadingBytes.{path, knownCount};
 ghost use Rattle.checker.specs.Opening.{Bodied};
 ghost use Rattle.checker.specs.Noting.{noteAt};
+ghost use Rattle.checker.specs.Paths.{Head, Placed, term, pair, list};
 ghost use Rattle.checker.specs.Bodies.{Passable, faultAfter, placeAfter, Passed, PassedTwo, PassedAll, PassedBody, Finished};
 
 // The calls of a body, as bits, with that of the record at a place: a CL by the number of its function, a TL by 32 more.
@@ -81,7 +82,7 @@ fn check_term(
     fault: &mut u32,
     place: &mut usize,
 ) -> Read
-    requires { ⌜ Passable (now file) (now decl) at p ⌝ }
+    requires { ⌜ Passable (now file) (now decl) at p × Placed (now file) (now decl) (term at) p slots ⌝ }
     ensures { λ r. ⌜ Passed (now (file .entry)) (now (decl .entry)) at result slots p (now (calls .entry)) (now (fault .entry)) (now (place .entry)) (now (calls .exit)) (now (fault .exit)) (now (place .exit)) r ⌝ }
 {
     let n = read_node(file, decl, at, p);
@@ -162,7 +163,7 @@ fn check_two(
     fault: &mut u32,
     place: &mut usize,
 ) -> Read
-    requires { ⌜ Passable (now file) (now decl) start p ⌝ }
+    requires { ⌜ Passable (now file) (now decl) start p × Placed (now file) (now decl) (pair start) p slots ⌝ }
     ensures { λ r. ⌜ PassedTwo (now (file .entry)) (now (decl .entry)) start result slots p (now (calls .entry)) (now (fault .entry)) (now (place .entry)) (now (calls .exit)) (now (fault .exit)) (now (place .exit)) r ⌝ }
 {
     match check_term(file, decl, start, result, slots, p, calls, fault, place) {
@@ -187,7 +188,7 @@ fn check_branches(
     fault: &mut u32,
     place: &mut usize,
 ) -> Read
-    requires { ⌜ Passable (now file) (now decl) start p × (credit ≤ 1) ⌝ }
+    requires { ⌜ Passable (now file) (now decl) start p × (credit ≤ 1) × Placed (now file) (now decl) (list start count credit) p slots ⌝ }
     ensures { λ r. ⌜ PassedAll (now (file .entry)) (now (decl .entry)) start count credit result slots p (now (calls .entry)) (now (fault .entry)) (now (place .entry)) (now (calls .exit)) (now (fault .exit)) (now (place .exit)) r ⌝ }
 {
     let mut at = start;
@@ -232,7 +233,7 @@ fn check_body(
     fault: &mut u32,
     place: &mut usize,
 ) -> Read
-    requires { ⌜ Passable (now file) (now decl) at (path 0 0) × (f < 32) × (knownCount (now decl) f ≤ 8) ⌝ }
+    requires { ⌜ Passable (now file) (now decl) at (path 0 0) × (f < 32) × (knownCount (now decl) f ≤ 8) × Head (now file) (now decl) f ⌝ }
     ensures { λ r. ⌜ PassedBody (now (file .entry)) (now (decl .entry)) at f (now (calls .entry)) (now (fault .entry)) (now (place .entry)) (now (calls .exit)) (now (fault .exit)) (now (place .exit)) r ⌝ }
 {
     match expect_mark(file, at, BD) {

@@ -10,7 +10,6 @@ use crate::slots::test;
 use crate::slots::want_back;
 use crate::slots::want_of;
 use meaning::AR;
-use meaning::BYTES;
 use meaning::CL;
 use meaning::GV;
 use meaning::IF;
@@ -524,17 +523,10 @@ pub(crate) fn seeing(seen: u64, c: usize) -> u64
     seen | (1 << (c as u64))
 }
 
-// The place of a function's mark, by that of its first mode; 0 where that is none of a file.
+// The place of a function's mark, by that of its first mode.
 pub(crate) fn head(decl: &[u32; 128], f: usize) -> usize
-    requires { ⌜ (f < 256) × (length (now decl) ≡ 128) ⌝ }
-    ensures { λ r. ⌜ r ≤ 4096 ⌝ }
+    requires { ⌜ (f < 256) × (length (now decl) ≡ 128) × (3 ≤ modesIn (now decl) f) ⌝ }
+    ensures { λ r. ⌜ r + 3 ≡ modesIn (now (decl .entry)) f ⌝ }
 {
-    let first = modes(decl, f);
-    if first < 3 {
-        return 0;
-    }
-    if BYTES < first {
-        return 0;
-    }
-    first - 3
+    modes(decl, f) - 3
 }

@@ -34,6 +34,7 @@ use Rattle.checker.specs.Noting.{noteCalls, wordsOf}
 use Rattle.checker.specs.Slots.{slotsOf, unbound}
 use Rattle.checker.specs.Ownership.{resultIn, laidOf, boundOf}
 use Rattle.checker.specs.OwnershipReady.{spanned, Known, Ready, Judged, Noted, ReadyBody, JudgedBody, NotedBody}
+use Rattle.checker.specs.Paths.{Head, term, Leads, body, Placed}
 use Rattle.checker.specs.Bodies.{Told, Passable, Passed, PassedBody, Finished}
 use Rattle.checker.proofs.reading.Tabled.{fill-wide, con-count, fun-count}
 use Rattle.checker.proofs.reading.Steps.{fault-next, from-le, from-next, from-fault, expect-next}
@@ -42,6 +43,7 @@ use Rattle.checker.proofs.ownership.Taking.{modes-scaled}
 use Rattle.checker.proofs.ownership.Branching.{laid-tells}
 use Rattle.checker.proofs.ownership.Cycle.{spanned-next, spanned-fault}
 use Rattle.checker.proofs.calls.Filling.{fill-start, fill-in}
+use Rattle.checker.proofs.bodies.Placing.{start-places}
 use Rattle.checker.proofs.bodies.Telling.{zero-or, told-next, told-fault, told-on}
 
 -- ---- one body
@@ -119,6 +121,15 @@ module _ (f d : List ℕ) (at j : ℕ) where
       made-passable h w k =
           let x = expect-next f at 2 start es in
           record { small = h; wide = w; inside = x .1; slots = omega (arith, en, known-is); nodes = omega arith }
+
+      pub made-placed : knownCount d j ≤ 8 → (g : Head f d j) (place m : ℕ) {fresh slots : List Slot} → place + 3 ≡ modesIn d j → fresh ≡ replicate 32 unbound
+          → slots ≡ boundOf f 1 place n m 0 fresh 0 → Placed f d (term start) (path n 0) slots
+      made-placed k g place m {fresh} {slots} ep ef el =
+          let y = expect-next f at 2 start es in
+          let z : place ≡ g .place = omega (arith, ep, g .modes) in
+          let q = start-places f place n m (omega (arith, en, known-is)) ef el in
+          let b : Leads f d (term (at + 2)) (path (paramsIn d j) 0) (replicate (paramsIn d j) (g .place)) = body at g (es ∙ ap Next (y .0)) in
+          record { leads = subst (Leads f d (term start) (path n 0)) (sym (q ∙ ap (replicate n) z)) (rw (y .0, en) b) }
 
       pub made-passed : {w x q w′ x′ q′ : ℕ} (place m res : ℕ) (fresh slots : List Slot) (r : Read) → m ≡ modesIn d j → res ≡ resultIn f d j → fresh ≡ replicate 32 unbound
           → slots ≡ boundOf f 1 place n m 0 fresh 0 → Passed f d start res slots (path n 0) w x q w′ x′ q′ r → PassedBody f d at j w x q w′ x′ q′ r

@@ -1,6 +1,6 @@
 -- A term and a branch list, read and checked at once: what each way to go on asks of the one that follows, and what it answers from that
 -- one's answer, of reading, the ownership and the calls. Assumes nothing.
-use Prim.Native.Nat.{ℕ, _+_, _-_, _^_, _≤_, _<_}
+use Prim.Native.Nat.{ℕ, suc, _+_, _-_, _^_, _≤_, _<_}
 use mathlib.Core.Bool.{Bool, false, true}
 use mathlib.Core.List.{List, [], _∷_}
 use mathlib.Core.Path.{_≡_, refl, sym, ap, _∙_, subst}
@@ -28,6 +28,8 @@ use Rattle.checker.specs.Noting.{noteAt}
 use Rattle.checker.specs.OwnershipReady.{Judged, Noted, JudgedAll, NotedAll, Made}
 use Rattle.checker.specs.ReadingBytes.{path, nodeAt, branchAt}
 use Rattle.checker.specs.Reads.{on, ReadsTerm, ReadsBranches}
+use Rattle.checker.specs.Paths.{term, pair, list, behind, placesOf, Leads, Placed}
+use Rattle.checker.specs.Paths as paths
 use Rattle.checker.specs.Bodies.{Passable, faultAfter, placeAfter, Told, Passed, PassedTwo, one, both, PassedAll}
 use Rattle.checker.proofs.reading.Then as then-type
 use Rattle.checker.proofs.reading.Steps.{fault-next, Fine, goes, leaf-of, one-of, two-of, many-of, fault-of, from-le, from-next, from-off, branch-off, pred-is}
@@ -37,6 +39,7 @@ use Rattle.checker.proofs.ownership.Cycle as cycle
 use Rattle.checker.proofs.ownership.Branching.{Opened, end-judged, end-noted, branch-twice, branch-judged, branch-noted}
 use Rattle.checker.proofs.ownership.Branching as branching
 use Rattle.checker.proofs.bodies.Meeting.{NodeRead, BranchRead, branch-read}
+use Rattle.checker.proofs.bodies.Placing.{node-places, branch-places}
 use Rattle.checker.proofs.bodies.Telling.{none-told, told-on, told-past, told-both}
 
 -- the node at a place
@@ -106,6 +109,21 @@ module _ {f d : List ℕ} {at result : ℕ} {slots : List Slot} {p : Path} {n : 
     kept = g .kept;
     follows = g .read .follows ∙ ap (thenOf f d at) (sym (g .is-mark));
   }
+
+  -- what bound the slots behind the node
+  bound-by : placesOf (n .path .slots) inner ≡ behind f at (placesOf (p .slots) slots)
+  bound-by =
+      node-places f at slots (g .taken .spent) (p .slots) (n .path .slots) (kindBy f d at (g .mark)) (g .wide) (g .is-mark)
+      (g .read .slots ∙ ap (λ m. p .slots + rowAt m .binds) (sym (g .is-mark))) (g .read .fits) (g .kept)
+
+  pub one-placed : {a : ℕ} → n .then ≡ then.One a → Placed f d (term at) p slots → Placed f d (term a) (n .path) inner
+  one-placed {a} e l = record { leads = subst (Leads f d (term a) (n .path)) (sym bound-by) (paths.one (l .leads) (g .met .node) e) }
+
+  pub two-placed : {a : ℕ} → n .then ≡ then.Two a → Placed f d (term at) p slots → Placed f d (pair a) (n .path) inner
+  two-placed {a} e l = record { leads = subst (Leads f d (pair a) (n .path)) (sym bound-by) (paths.two (l .leads) (g .met .node) e) }
+
+  pub many-placed : {a k credit : ℕ} → n .then ≡ then.Many a k credit → Placed f d (term at) p slots → Placed f d (list a k credit) (n .path) inner
+  many-placed {a} {k} {credit} e l = record { leads = subst (Leads f d (list a k credit) (n .path)) (sym bound-by) (paths.many (l .leads) (g .met .node) e) }
 
   -- what is noted of the term, from what is noted of the rest where the node has no fault
   past : {J : Read → Type 0} {M : Type 0} {m w′ x′ q′ : ℕ} → (g .taken .number ≡ 0 → (c : Read) → J c → Judged f d at result slots (p .slots) c)
@@ -193,6 +211,13 @@ second-passable k h e =
     let l = from-next e (h .from) in
     (omega (arith, l .0), record { small = k .small; wide = k .wide; inside = l .1; slots = k .slots; nodes = k .nodes })
 
+pub first-placed : {f d : List ℕ} {at : ℕ} {p : Path} {slots : List Slot} → Placed f d (pair at) p slots → Placed f d (term at) p slots
+first-placed l = record { leads = paths.first (l .leads) }
+
+pub second-placed : {f d : List ℕ} {at result : ℕ} {slots : List Slot} {p : Path} {w x q u y z b : ℕ} {r : Read} → Placed f d (pair at) p slots → Passed f d at result slots p w x q u y z r
+    → r ≡ Next b → Placed f d (term b) p slots
+second-placed {f} {d} {at} {p = p} l h e = record { leads = paths.second (l .leads) (subst (ReadsTerm f d at p) e (h .reads)) }
+
 pub two-both : {f d : List ℕ} {at result : ℕ} {slots : List Slot} {p : Path} {w x q u y z w′ x′ q′ b : ℕ} {r s : Read} → Passed f d at result slots p w x q u y z r → r ≡ Next b
     → Passed f d b result slots p u y z w′ x′ q′ s → PassedTwo f d at result slots p w x q w′ x′ q′ s
 two-both {f} {d} {at} {result} {slots} {p} {w} {x} {q} {u} {y} {z} h e i = both (subst (Passed f d at result slots p w x q u y z) e h) i
@@ -205,14 +230,15 @@ two-one {f} {d} {at} {result} {slots} {p} {w} {x} {q} {w′} {x′} {q′} h e =
 pub record Walked (f d : List ℕ) (start count credit result : ℕ) (slots : List Slot) (p : Path) (w x q at left seen v y z : ℕ) : Type 0 where
   pub later : start ≤ at
   pub inside : at ≤ length f
+  pub placed : Placed f d (list at left credit) p slots
   pub reads : (r : Read) → ReadsBranches f d at left credit p r → ReadsBranches f d start count credit p r
   pub told : (n w′ x′ q′ : ℕ)
       → Told (JudgedAll f d at left credit seen result slots (p .slots)) (NotedAll f d at left credit result (p .slots) v w′) n y z x′ q′
       → Told (JudgedAll f d start count credit 0 result slots (p .slots)) (NotedAll f d start count credit result (p .slots) w w′) n x q x′ q′
 
-pub none-walked : {f d : List ℕ} {start count credit result : ℕ} {slots : List Slot} {p : Path} {w x q : ℕ} → start ≤ length f
+pub none-walked : {f d : List ℕ} {start count credit result : ℕ} {slots : List Slot} {p : Path} {w x q : ℕ} → start ≤ length f → Placed f d (list start count credit) p slots
     → Walked f d start count credit result slots p w x q start count 0 w x q
-none-walked h = record { later = omega arith; inside = h; reads = λ r k. k; told = λ n w′ x′ q′ t. t }
+none-walked h l = record { later = omega arith; inside = h; placed = l; reads = λ r k. k; told = λ n w′ x′ q′ t. t }
 
 module _ {f d : List ℕ} {start count credit result : ℕ} {slots : List Slot} {p : Path} {w x q at left seen v y z : ℕ}
     (g : Walked f d start count credit result slots p w x q at left seen v y z) (k : Passable f d start p) where
@@ -235,6 +261,7 @@ pub record Branched (f d : List ℕ) (start count credit result : ℕ) (slots : 
   pub walked : Walked f d start count credit result slots p w x q at left seen v y z
   pub passable : Passable f d start p
   pub wide : length slots ≡ 32
+  pub flag : credit ≤ 1
   pub some : left ≡ 0 → ⊥
   pub read : branchAt f d at credit (p .slots) ≡ Next more
   pub con : c ≡ byteAt f (at + 2)
@@ -270,6 +297,19 @@ module _ {f d : List ℕ} {start count credit result : ℕ} {slots : List Slot} 
   more-is : more ≡ p .slots + arityIn d c + creditsOf (arityIn d c) credit
   more-is = record-read .count ∙ ap (λ i. p .slots + arityIn d i + creditsOf (arityIn d i) credit) (sym (g .con))
 
+  -- the branches that are left, this one among them
+  placed-here : Leads f d (list at (suc (left - 1)) credit) p (placesOf (p .slots) slots)
+  placed-here = subst (λ i. Leads f d (list at i credit) p (placesOf (p .slots) slots)) (pred-is left (g .some)) (g .walked .placed .leads)
+
+  pub branch-placed : Placed f d (term (at + 3)) (path more (p .nodes)) inner
+  branch-placed = record {
+    leads = subst (Leads f d (term (at + 3)) (path more (p .nodes))) (sym (branch-places f d at credit slots (p .slots) (g .flag) (g .wide) (g .con) more-is (record-read .fits) (g .kept)))
+        (paths.branch placed-here (g .read));
+  }
+
+  later-placed : {n : ℕ} → ReadsTerm f d (at + 3) (path more (p .nodes)) (Next n) → Placed f d (list n (left - 1) credit) p slots
+  later-placed h = record { leads = paths.later placed-here (g .read) h }
+
   branch-told : {r : Read} → Judged f d (at + 3) result inner more r → Judged f d (at + 3) result inner (p .slots + arityIn d c + creditsOf (arityIn d c) credit) r
   branch-told {r} j = subst (λ i. Judged f d (at + 3) result inner i r) more-is j
 
@@ -296,6 +336,7 @@ module _ {f d : List ℕ} {start count credit result : ℕ} {slots : List Slot} 
       record {
         later = omega (arith, g .walked .later, l .0);
         inside = l .1;
+        placed = later-placed (subst (ReadsTerm f d (at + 3) (path more (p .nodes))) e (h .reads));
         reads = λ r b.
             g .walked .reads r
             (steps.branch-reads f d at credit p (g .walked .inside) (g .passable .nodes) (left - 1) left (pred-is left (g .some)) more n r (g .read) (record-read .inside) (omega (arith, l .0)) (l .1)

@@ -28,6 +28,7 @@ use Rattle.checker.specs.declared.reading.Read.the-variants.{Next, Fault
 use Rattle.checker.specs.ReadingBytes.{path, knownCount, numberAt, onNext, expectAt, finishAt, endAt}
 use Rattle.checker.specs.Reads.{spanOf, countOf, From, on, off, ReadsTerm}
 use Rattle.checker.specs.Opening.{tableWith, Headed, Refused, leftOver, Bodied, ReadsBody, Ends}
+use Rattle.checker.proofs.reading.Heads.{head-kept}
 use Rattle.checker.proofs.reading.Named.{named, mark-is}
 use Rattle.checker.proofs.reading.Spans.{Spans, went, fell, andThen, bind, within}
 use Rattle.checker.proofs.reading.Cycle.{tOf, spans}
@@ -230,6 +231,7 @@ bodied-start f d k at h C no-fun l =
       functions-count = C .count;
       few = C .few;
       few-functions = C .few-functions;
+      heads = C .heads;
       done = refl;
       inside = C .inside;
       reads = read-headed f d k at h C
@@ -333,6 +335,7 @@ module _ (f d : List ℕ) (count j at : ℕ) (C : Bodied f d count j at) (h : j 
             functions-count = c;
             few = C .few;
             few-functions = w;
+            heads = λ g v. head-kept (96 + j) (at + 2) (λ i. omega (arith, i, v, w)) (C .heads g v);
             done = length-append (C .terms) (t ∷ []) ∙ ap (λ i. i + 1) k;
             inside = l;
             reads = reads-term q ∙ ap (λ o. then (then o behind) (last (C .terms))) e

@@ -23,6 +23,7 @@ use Rattle.checker.specs.Opening.{tableWith, Conned, Headed, Refused}
 use Rattle.checker.proofs.reading.Named.{named, mark-is}
 use Rattle.checker.proofs.reading.Steps.{from-le, from-next, from-fault, from-pick, from-small, short, wrong}
 use Rattle.checker.proofs.reading.Tabled.{con-end-more, fun-end-more, table-con, table-fun, table-blank}
+use Rattle.checker.proofs.reading.Heads.{head-more}
 use Rattle.checker.proofs.reading.Header.{con-got, con-fails, con-full, con-more, fun-got, fun-fails, fun-full, fun-more}
 
 -- ---- a list with one entry more
@@ -311,6 +312,7 @@ headed-start f d n at C =
       few = omega arith;
       few-functions = omega arith;
       place = C .place;
+      heads = λ g l. absurd (omega (arith, l));
       reached = omega arith;
       inside = C .inside;
       reads = λ m size. let z : m + (length (C .constructors) + 0) ≡ m + n = omega arith in ap (λ j. header j size [] [] 0 f) z ∙ C .reads m size;
@@ -373,6 +375,7 @@ module _ (f d : List ℕ) (k at : ℕ) (C : Headed f d k at) where
           count = length-append (C .functions) (c .0 ∷ []) ∙ ap (λ j. j + 1) s;
           few = C .few;
           few-functions = omega arith;
+          heads = head-more f d k at w (C .wide) l e (omega (arith, c .3, c .4)) v r (C .heads);
           place = let y = fun-ends f (at + 2) m q in let z = fun-end-more (con-end 0 (C .constructors)) (C .functions) (c .0) in omega (arith, c .2 .0);
           reached = omega (arith, c .3);
           inside = c .4;

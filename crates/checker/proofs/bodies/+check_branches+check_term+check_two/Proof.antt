@@ -47,7 +47,7 @@ use Rattle.checker.proofs.reading.Steps.{pred-is}
 use Rattle.checker.proofs.ownership.Naming.{names-taken, many-taken}
 use Rattle.checker.proofs.ownership.Turns.{kept-turn, kept-none, kept-bound, kept-all}
 use Rattle.checker.proofs.bodies.Meeting.{NodeRead, node-read, branch-read}
-use Rattle.checker.proofs.bodies.Terms.{NodeMet, no-fault, met-low, fault-passed, none-noted, NodeMade, leaf-passed, one-passable, one-passed, two-passable, two-passed, many-passable, many-passed, second-passable, two-both, two-one, Walked, none-walked, end-passed, branch-faults, Branched, branch-passable, term-faults, branch-walked}
+use Rattle.checker.proofs.bodies.Terms.{NodeMet, no-fault, met-low, fault-passed, none-noted, NodeMade, leaf-passed, one-passable, one-passed, two-passable, two-passed, many-passable, many-passed, one-placed, two-placed, many-placed, first-placed, second-placed, branch-placed, second-passable, two-both, two-one, Walked, none-walked, end-passed, branch-faults, Branched, branch-passable, term-faults, branch-walked}
 
 abbrev μ-check-branches : Measures 5 check-branches-kinds.ps ℕ
 μ-check-branches κs a = 2 * (length (a .0 .now) - a .1 .1 .0)
@@ -115,6 +115,7 @@ branched t c =
       walked = l .inv;
       passable = c .before .before .before .before .before .before .before .before .before .before .before .before .before .pre .1 .0;
       wide = c .before .before .before .before .before .before .before .before .before .before .before .before .before .good .1 .1 .1 .1 .1 .1 .0 .1 .0 .1;
+      flag = c .before .before .before .before .before .before .before .before .before .before .before .before .before .pre .1 .1;
       some = c .before .before .before .before .before .before .before .before .before .before .loop-test .taken;
       read = sym (c .before .before .before .before .before .before .before .before .before .read-branch .ensures) ∙ c .before .before .before .before .before .before .before .more .given .1;
       con = c .before .before .before .before .before .byte .ensures .0;
@@ -124,7 +125,7 @@ branched t c =
     }
 
 check-branches-loop-holds : (t : ℕ) → check-branches-lts.Need-loop-holds (check-branches-calls t) (check-branches-at t) check-branches.Post check-branches-Inv-loop check-branches-μ-loop
-check-branches-loop-holds t c = none-walked (c .before .pre .1 .0 .inside)
+check-branches-loop-holds t c = none-walked (c .before .pre .1 .0 .inside) (c .before .pre .1 .2)
 
 check-branches-read-branch-requires : (t : ℕ) → check-branches-lts.Need-read-branch-requires (check-branches-calls t) (check-branches-at t) check-branches.Post check-branches-Inv-loop check-branches-μ-loop
 check-branches-read-branch-requires t c κs = (c .before .loop .inv .inside, c .before .before .before .pre .1 .1, c .before .before .before .pre .1 .0 .slots)
@@ -160,7 +161,7 @@ check-branches-add-check-term : (t : ℕ) → check-branches-lts.Need-add-check-
 check-branches-add-check-term t c = let x = branch-read (sym (c .before .before .before .before .before .before .before .before .before .read-branch .ensures) ∙ c .before .before .before .before .before .before .before .more .given .1) (c .before .before .before .before .before .before .before .before .before .before .before .loop .inv .inside) in omega (arith, x .inside)
 
 check-branches-check-term-requires : (t : ℕ) → check-branches-lts.Need-check-term-requires (check-branches-calls t) (check-branches-at t) check-branches.Post check-branches-Inv-loop check-branches-μ-loop
-check-branches-check-term-requires t c κs = let x = branch-passable (branched t (c .before .before .before)) in (omega (arith, c .before .before .before .before .before .before .before .before .before .before .before .before .before .before .before .before .pre .0, x .0, x .1 .inside), x .1)
+check-branches-check-term-requires t c κs = let b = branched t (c .before .before .before) in let x = branch-passable b in (omega (arith, c .before .before .before .before .before .before .before .before .before .before .before .before .before .before .before .before .pre .0, x .0, x .1 .inside), (x .1, branch-placed b))
 
 check-branches-enum-known-next : (t : ℕ) → check-branches-lts.Need-enum-known-next (check-branches-calls t) (check-branches-at t) check-branches.Post check-branches-Inv-loop check-branches-μ-loop
 check-branches-enum-known-next t c = search needs
@@ -196,13 +197,13 @@ check-term-μ-loop file decl at result calls fault place then bound after inner�
 node-met : (t : ℕ) (c : check-term-lts.After-read-node (check-term-calls t) (check-term-at t) check-term.Post check-term-Inv-loop check-term-μ-loop)
     → let a = c .before .before .args in
     NodeMet (a .file .now) (a .decl .now) (a .at) (a .p) (c .read-node .result)
-node-met t c = record { passable = c .before .before .pre .1; node = c .read-node .ensures }
+node-met t c = record { passable = c .before .before .pre .1 .0; node = c .read-node .ensures }
 
 -- that node, where it reads
 node-reads : (t : ℕ) (c : check-term-lts.At-match-keys2 (check-term-calls t) (check-term-at t) check-term.Post check-term-Inv-loop check-term-μ-loop)
     → let a = c .before .before .before .args in
     NodeRead (a .file .now) (a .decl .now) (a .at) (a .p) (c .before .read-node .result)
-node-reads t c = node-read (c .before .read-node .ensures) (c .before .before .before .pre .1 .inside) (no-fault (c .before .read-node .result .then) (c .match .keys2))
+node-reads t c = node-read (c .before .read-node .ensures) (c .before .before .before .pre .1 .0 .inside) (no-fault (c .before .read-node .result .then) (c .match .keys2))
 
 -- what the node takes
 taken : (t : ℕ) (c : check-term-lts.Joined1 (check-term-calls t) (check-term-at t) check-term.Post check-term-Inv-loop check-term-μ-loop)
@@ -211,7 +212,7 @@ taken : (t : ℕ) (c : check-term-lts.Joined1 (check-term-calls t) (check-term-a
 taken t c =
     let a = c .before .before .before .before .before .before .before .before .before .before .before .before .before .before .args in
     ⊎-elim (λ w. w .5 ∙ w .1 .ensures ∙ many-taken (a .file .now) (a .decl .now) (a .at) (a .slots) (a .p .slots) (c .before .before .before .before .before .before .before .before .before .mark .result) (a .result) (sym (c .before .takes-many .ensures) ∙ w .0 .taken))
-    (λ w. w .2 ∙ c .before .before .take-named .ensures ∙ names-taken (a .file .now) (a .decl .now) (a .at) (a .slots) (a .p .slots) (c .before .before .before .before .before .before .before .before .before .before .before .before .before .before .pre .1 .slots) (a .result) (c .before .before .before .before .before .before .before .before .before .mark .result) (sym (c .before .takes-many .ensures) ∙ w .0 .left)
+    (λ w. w .2 ∙ c .before .before .take-named .ensures ∙ names-taken (a .file .now) (a .decl .now) (a .at) (a .slots) (a .p .slots) (c .before .before .before .before .before .before .before .before .before .before .before .before .before .before .pre .1 .0 .slots) (a .result) (c .before .before .before .before .before .before .before .before .before .mark .result) (sym (c .before .takes-many .ensures) ∙ w .0 .left)
     (c .before .before .before .before .before .before .before .before .first-place .result) (c .before .before .before .before .before .before .before .second-place .result) (c .before .before .before .before .before .before .before .before .first-place .ensures) (c .before .before .before .before .before .before .before .second-place .ensures) (c .before .before .before .before .before .before .slot-index .result) (c .before .before .before .before .slot-index2 .result) _ _ (c .before .before .before .before .before .before .slot-index .ensures .0) refl (c .before .before .before .before .slot-index2 .ensures .0) refl)
     (c .if1 .came)
 
@@ -256,7 +257,7 @@ made t c =
     }
 
 check-term-read-node-requires : (t : ℕ) → check-term-lts.Need-read-node-requires (check-term-calls t) (check-term-at t) check-term.Post check-term-Inv-loop check-term-μ-loop
-check-term-read-node-requires t c κs = let k = c .before .pre .1 in (k .inside, k .slots, k .nodes)
+check-term-read-node-requires t c κs = let k = c .before .pre .1 .0 in (k .inside, k .slots, k .nodes)
 
 check-term-enum-known-then : (t : ℕ) → check-term-lts.Need-enum-known-then (check-term-calls t) (check-term-at t) check-term.Post check-term-Inv-loop check-term-μ-loop
 check-term-enum-known-then t c = search needs
@@ -355,19 +356,19 @@ check-term-enum-known-then-3 : (t : ℕ) → check-term-lts.Need-enum-known-then
 check-term-enum-known-then-3 t c = search needs
 
 check-term-check-term-requires : (t : ℕ) → check-term-lts.Need-check-term-requires (check-term-calls t) (check-term-at t) check-term.Post check-term-Inv-loop check-term-μ-loop
-check-term-check-term-requires t c κs = let x = one-passable (made t (c .before .before .before .before .before .before)) (c .before .before .before .before .then3 .given .1) in (omega (arith, c .before .before .before .before .before .before .before .before .before .before .before .before .before .before .before .before .before .before .before .before .before .before .before .before .before .before .before .pre .0, x .0, x .1 .inside), x .1)
+check-term-check-term-requires t c κs = let m = made t (c .before .before .before .before .before .before) in let x = one-passable m (c .before .before .before .before .then3 .given .1) in (omega (arith, c .before .before .before .before .before .before .before .before .before .before .before .before .before .before .before .before .before .before .before .before .before .before .before .before .before .before .before .pre .0, x .0, x .1 .inside), (x .1, one-placed m (c .before .before .before .before .then3 .given .1) (c .before .before .before .before .before .before .before .before .before .before .before .before .before .before .before .before .before .before .before .before .before .before .before .before .before .before .before .pre .1 .1)))
 
 check-term-enum-known-then-4 : (t : ℕ) → check-term-lts.Need-enum-known-then-4 (check-term-calls t) (check-term-at t) check-term.Post check-term-Inv-loop check-term-μ-loop
 check-term-enum-known-then-4 t c = search needs
 
 check-term-check-two-requires : (t : ℕ) → check-term-lts.Need-check-two-requires (check-term-calls t) (check-term-at t) check-term.Post check-term-Inv-loop check-term-μ-loop
-check-term-check-two-requires t c κs = let x = two-passable (made t (c .before .before .before .before .before .before)) (c .before .before .before .before .then4 .given .1) in (omega (arith, c .before .before .before .before .before .before .before .before .before .before .before .before .before .before .before .before .before .before .before .before .before .before .before .before .before .before .before .pre .0, x .0, x .1 .inside), x .1)
+check-term-check-two-requires t c κs = let m = made t (c .before .before .before .before .before .before) in let x = two-passable m (c .before .before .before .before .then4 .given .1) in (omega (arith, c .before .before .before .before .before .before .before .before .before .before .before .before .before .before .before .before .before .before .before .before .before .before .before .before .before .before .before .pre .0, x .0, x .1 .inside), (x .1, two-placed m (c .before .before .before .before .then4 .given .1) (c .before .before .before .before .before .before .before .before .before .before .before .before .before .before .before .before .before .before .before .before .before .before .before .before .before .before .before .pre .1 .1)))
 
 check-term-enum-known-then-5 : (t : ℕ) → check-term-lts.Need-enum-known-then-5 (check-term-calls t) (check-term-at t) check-term.Post check-term-Inv-loop check-term-μ-loop
 check-term-enum-known-then-5 t c = search needs
 
 check-term-check-branches-requires : (t : ℕ) → check-term-lts.Need-check-branches-requires (check-term-calls t) (check-term-at t) check-term.Post check-term-Inv-loop check-term-μ-loop
-check-term-check-branches-requires t c κs = let x = many-passable (made t (c .before .before .before .before .before .before)) (c .before .before .before .before .then5 .given .1) in (omega (arith, c .before .before .before .before .before .before .before .before .before .before .before .before .before .before .before .before .before .before .before .before .before .before .before .before .before .before .before .pre .0, x .0, x .1 .inside), (x .1, x .2))
+check-term-check-branches-requires t c κs = let m = made t (c .before .before .before .before .before .before) in let x = many-passable m (c .before .before .before .before .then5 .given .1) in (omega (arith, c .before .before .before .before .before .before .before .before .before .before .before .before .before .before .before .before .before .before .before .before .before .before .before .before .before .before .before .pre .0, x .0, x .1 .inside), (x .1, x .2, many-placed m (c .before .before .before .before .then5 .given .1) (c .before .before .before .before .before .before .before .before .before .before .before .before .before .before .before .before .before .before .before .before .before .before .before .before .before .before .before .pre .1 .1)))
 
 check-term-enum-known-then-6 : (t : ℕ) → check-term-lts.Need-enum-known-then-6 (check-term-calls t) (check-term-at t) check-term.Post check-term-Inv-loop check-term-μ-loop
 check-term-enum-known-then-6 t c = search needs
@@ -388,13 +389,13 @@ check-term-returns-6 : (t : ℕ) → check-term-lts.Need-returns-6 (check-term-c
 check-term-returns-6 t c = fault-passed (node-met t (c .before .before .before .before .before .before .before .before .before .before .before .before .before .before .before .before .before .before .before .before .before .before)) (c .before .then6 .given .1)
 
 check-two-check-term-requires : (t : ℕ) → check-two-lts.Need-check-term-requires (check-two-calls t) (check-two-at t) check-two.Post
-check-two-check-term-requires t c κs = (omega (arith, c .before .before .before .before .pre .0), c .before .before .before .before .pre .1)
+check-two-check-term-requires t c κs = (omega (arith, c .before .before .before .before .pre .0), (c .before .before .before .before .pre .1 .0, first-placed (c .before .before .before .before .pre .1 .1)))
 
 check-two-enum-known-second : (t : ℕ) → check-two-lts.Need-enum-known-second (check-two-calls t) (check-two-at t) check-two.Post
 check-two-enum-known-second t c = search needs
 
 check-two-check-term-requires-2 : (t : ℕ) → check-two-lts.Need-check-term-requires-2 (check-two-calls t) (check-two-at t) check-two.Post
-check-two-check-term-requires-2 t c κs = let x = second-passable (c .before .before .before .before .before .before .before .before .before .before .before .pre .1) (c .before .before .before .before .before .before .check-term .ensures) (c .before .before .before .before .second .given .1) in (omega (arith, c .before .before .before .before .before .before .before .before .before .before .before .pre .0, x .0, x .1 .inside), x .1)
+check-two-check-term-requires-2 t c κs = let x = second-passable (c .before .before .before .before .before .before .before .before .before .before .before .pre .1 .0) (c .before .before .before .before .before .before .check-term .ensures) (c .before .before .before .before .second .given .1) in (omega (arith, c .before .before .before .before .before .before .before .before .before .before .before .pre .0, x .0, x .1 .inside), (x .1, second-placed (c .before .before .before .before .before .before .before .before .before .before .before .pre .1 .1) (c .before .before .before .before .before .before .check-term .ensures) (c .before .before .before .before .second .given .1)))
 
 check-two-enum-known-number : (t : ℕ) → check-two-lts.Need-enum-known-number (check-two-calls t) (check-two-at t) check-two.Post
 check-two-enum-known-number t c = search needs

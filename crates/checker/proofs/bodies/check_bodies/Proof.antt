@@ -22,7 +22,7 @@ check-body-requires : tie.Need-check-body-requires Inv-loop μ-loop
 check-body-requires c κs =
     let b = c .before .before .before .before .before .loop .inv .1 in
     let w = b .few-functions in
-    (record { small = c .before .before .before .before .before .before .before .pre .0; wide = b .wide; inside = b .inside; slots = omega arith; nodes = omega arith }, omega (arith, w, c .before .before .before .before .loop-test .taken), few-slots _ _ _ _ _ b (c .before .before .before .before .loop-test .taken))
+    (record { small = c .before .before .before .before .before .before .before .pre .0; wide = b .wide; inside = b .inside; slots = omega arith; nodes = omega arith }, omega (arith, w, c .before .before .before .before .loop-test .taken), few-slots _ _ _ _ _ b (c .before .before .before .before .loop-test .taken), b .heads _ (c .before .before .before .before .loop-test .taken))
 
 enum-known-next : tie.Need-enum-known-next Inv-loop μ-loop
 enum-known-next c = search needs

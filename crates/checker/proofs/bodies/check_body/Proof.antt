@@ -4,7 +4,7 @@ use Rattle.checker.proofs.bodies.check_body.Statement.{statement}
 use Rattle.checker.proofs.bodies.check_body.Tie as tie
 use native.Mathlib.Omega.{arith}
 use mathlib.Core.Path.{sym, _∙_}
-use Rattle.checker.proofs.bodies.Filing.{known-is, body-unread, made-passable, made-passed}
+use Rattle.checker.proofs.bodies.Filing.{known-is, body-unread, made-passable, made-placed, made-passed}
 
 expect-mark-requires : tie.Need-expect-mark-requires
 expect-mark-requires c κs = c .before .pre .0 .inside
@@ -25,18 +25,21 @@ modes-requires : tie.Need-modes-requires
 modes-requires c κs = (omega (arith, c .before .before .before .before .before .before .before .pre .1), c .before .before .before .before .before .before .before .pre .0 .wide)
 
 head-requires : tie.Need-head-requires
-head-requires c κs = (omega (arith, c .before .before .before .before .before .before .before .before .pre .1), c .before .before .before .before .before .before .before .before .pre .0 .wide)
+head-requires c κs = let k = c .before .before .before .before .before .before .before .before .pre in (omega (arith, k .1), k .0 .wide, omega (arith, k .3 .modes))
 
 bind-all-requires : tie.Need-bind-all-requires
 bind-all-requires c κs =
     let k = known-is (c .before .before .before .before .before .before .before .before .before .args .file .now) (c .before .before .before .before .before .before .before .before .before .args .decl .now) (c .before .before .before .before .before .before .before .before .before .args .at) (c .before .before .before .before .before .before .before .before .before .args .f) (c .before .before .before .before .before .before .before .before .before .pre .1) in
-    (omega (arith, k, c .before .before .before .params .ensures .0, c .before .before .before .before .before .before .before .before .before .pre .2), c .head .ensures, c .before .modes .ensures .1, omega arith)
+    (omega (arith, k, c .before .before .before .params .ensures .0, c .before .before .before .before .before .before .before .before .before .pre .2), omega (arith, c .head .ensures, c .before .before .before .before .before .before .before .before .before .pre .3 .modes, c .before .before .before .before .before .before .before .before .before .pre .3 .inside, c .before .before .before .before .before .before .before .before .before .pre .0 .small), c .before .modes .ensures .1, omega arith)
 
 result-of-requires : tie.Need-result-of-requires
 result-of-requires c κs = (omega (arith, c .before .before .before .before .before .before .before .before .before .before .pre .1), c .before .before .before .before .before .before .before .before .before .before .pre .0 .wide)
 
 check-term-requires : tie.Need-check-term-requires
-check-term-requires c κs = made-passable _ _ _ _ (c .before .before .before .before .before .before .before .before .before .before .before .before .before .before .pre .1) _ _ (c .before .before .before .before .before .before .before .before .params .ensures .0) (sym (c .before .before .before .before .before .before .before .before .before .before .before .before .expect-mark .ensures) ∙ c .before .before .before .before .before .before .before .before .before .before .start .given .1) (c .before .before .before .before .before .before .before .before .before .before .before .before .before .before .pre .0 .small) (c .before .before .before .before .before .before .before .before .before .before .before .before .before .before .pre .0 .wide) (c .before .before .before .before .before .before .before .before .before .before .before .before .before .before .pre .2)
+check-term-requires c κs = (
+  made-passable _ _ _ _ (c .before .before .before .before .before .before .before .before .before .before .before .before .before .before .pre .1) _ _ (c .before .before .before .before .before .before .before .before .params .ensures .0) (sym (c .before .before .before .before .before .before .before .before .before .before .before .before .expect-mark .ensures) ∙ c .before .before .before .before .before .before .before .before .before .before .start .given .1) (c .before .before .before .before .before .before .before .before .before .before .before .before .before .before .pre .0 .small) (c .before .before .before .before .before .before .before .before .before .before .before .before .before .before .pre .0 .wide) (c .before .before .before .before .before .before .before .before .before .before .before .before .before .before .pre .2),
+  made-placed _ _ _ _ (c .before .before .before .before .before .before .before .before .before .before .before .before .before .before .pre .1) _ _ (c .before .before .before .before .before .before .before .before .params .ensures .0) (sym (c .before .before .before .before .before .before .before .before .before .before .before .before .expect-mark .ensures) ∙ c .before .before .before .before .before .before .before .before .before .before .start .given .1) (c .before .before .before .before .before .before .before .before .before .before .before .before .before .before .pre .2) (c .before .before .before .before .before .before .before .before .before .before .before .before .before .before .pre .3) _ _ (c .before .before .before .before .before .head .ensures) (c .before .before .before .before .before .before .before .fresh-slots .ensures) (c .before .before .before .before .bind-all .ensures),
+)
 
 returns : tie.Need-returns
 returns c = body-unread _ _ _ _ _ _ (c .before .before .before .before .before .pre .0 .inside) (sym (c .before .before .before .expect-mark .ensures) ∙ c .before .number .given .1)
