@@ -8,7 +8,7 @@ use lib.ListN.{length, getElem?}
 use lib.Dec.{ltb, leb, eqb}
 use Rattle.meaning.specs.Syntax.{Sort, Mode, Signature, Term, Branches, Constructor, File}
 use Rattle.meaning.specs.Outcome.{Outcome, ok, refuse, then}
-use Rattle.meaning.specs.Marks.{Mark, CN, FN, BD, ND, GV, AT, MK, CL, TL, OP, LK, BR, NU, AR, IF, other, find, marks}
+use Rattle.meaning.specs.Marks.{Mark, CN, FN, BD, ND, GV, AT, MK, CL, TL, OP, LK, BR, NU, AR, IF, other, find, marks, code, binds}
 
 abbrev pub Reader : Type 0 → Type 0
 Reader A = ℕ → List ℕ → Outcome (A × ℕ × List ℕ)
@@ -62,12 +62,12 @@ mark = do
   return (find (a * 256 + b) marks other)
 
 -- 3, at the mark: "a mark not allowed here"; only this one is
-unfoldable pub expect : ℕ → Reader (Unit {0})
-expect code = do
+unfoldable pub expect : (code : ℕ) → Reader (Unit {0})
+expect w = do
   p ← here
   a ← byte
   b ← byte
-  ensure 3 p (eqb (a * 256 + b) code)
+  ensure 3 p (eqb (a * 256 + b) w)
 
 -- "0 number, 1 tree"
 unfoldable pub sort : Reader Sort
@@ -108,6 +108,14 @@ abbrev pub credits : Constructor → ℕ
 credits [] = 0
 credits (_ ∷ _) = 1
 
+-- the slots on a path with those that a record binds
+abbrev pub more : (count slots : ℕ) → ℕ
+more zero slots = slots
+more (suc n) slots = suc (more n slots)
+
+abbrev pub bound : Mark → (slots : ℕ) → ℕ
+bound m slots = more (binds m) slots
+
 module _ (constructors : List Constructor) (functions : List Signature) where
   -- 5, at the mark: "32 slots on any path (parameters included), 64 nodes on any path (every mark from GV on except BR is a node)"; the counts
   -- are those with this node and with the slots that it binds
@@ -121,33 +129,36 @@ module _ (constructors : List Constructor) (functions : List Signature) where
   -- GV: "slot"
   node term branches slots nodes p GV = do
     s ← byte
-    limits p slots (suc nodes)
+    limits p (bound GV slots) (suc nodes)
     return (Term.GV p s)
   -- AT: "atom constructor"
   node term branches slots nodes p AT = do
     c ← declared constructors is-atom
-    limits p (suc slots) (suc nodes)
-    t ← term (suc slots) (suc nodes)
+    let after = bound AT slots
+    limits p after (suc nodes)
+    t ← term after (suc nodes)
     return (Term.AT p (c .0) t)
   -- MK: "constructor of arity k, at least 1; credit slot; k slots"
   node term branches slots nodes p MK = do
     c ← declared constructors is-node
     k ← byte
     ss ← times (length (c .1)) byte
-    limits p (suc slots) (suc nodes)
-    t ← term (suc slots) (suc nodes)
+    let after = bound MK slots
+    limits p after (suc nodes)
+    t ← term after (suc nodes)
     return (Term.MK p (c .0) k ss t)
   -- CL, TL: "function; its argument slots"
   node term branches slots nodes p CL = do
     f ← declared functions any
     ss ← times (length (f .1 .parameters)) byte
-    limits p (suc slots) (suc nodes)
-    t ← term (suc slots) (suc nodes)
+    let after = bound CL slots
+    limits p after (suc nodes)
+    t ← term after (suc nodes)
     return (Term.CL p (f .0) ss t)
   node term branches slots nodes p TL = do
     f ← declared functions any
     ss ← times (length (f .1 .parameters)) byte
-    limits p slots (suc nodes)
+    limits p (bound TL slots) (suc nodes)
     return (Term.TL p (f .0) ss)
   -- OP, LK: "slot; branch count 1..64; branches"
   node term branches slots nodes p OP = do
@@ -155,38 +166,43 @@ module _ (constructors : List Constructor) (functions : List Signature) where
     q ← here
     k ← byte
     ensure 4 q (ltb 0 k && leb k 64)
-    limits p slots (suc nodes)
-    bs ← branches k credits slots (suc nodes)
+    let after = bound OP slots
+    limits p after (suc nodes)
+    bs ← branches k credits after (suc nodes)
     return (Term.OP p s bs)
   node term branches slots nodes p LK = do
     s ← byte
     q ← here
     k ← byte
     ensure 4 q (ltb 0 k && leb k 64)
-    limits p slots (suc nodes)
-    bs ← branches k (λ c. 0) slots (suc nodes)
+    let after = bound LK slots
+    limits p after (suc nodes)
+    bs ← branches k (λ c. 0) after (suc nodes)
     return (Term.LK p s bs)
   -- NU: "constant", of two bytes, "high byte first"
   node term branches slots nodes p NU = do
     h ← byte
     l ← byte
-    limits p (suc slots) (suc nodes)
-    t ← term (suc slots) (suc nodes)
+    let after = bound NU slots
+    limits p after (suc nodes)
+    t ← term after (suc nodes)
     return (Term.NU p (h * 256 + l) t)
   -- AR: "operation 0..3; two slots"
   node term branches slots nodes p AR = do
     o ← below 4
     x ← byte
     y ← byte
-    limits p (suc slots) (suc nodes)
-    t ← term (suc slots) (suc nodes)
+    let after = bound AR slots
+    limits p after (suc nodes)
+    t ← term after (suc nodes)
     return (Term.AR p o x y t)
   -- IF: "slot; two terms". "Branches, and the two terms of IF, start from the same slots."
   node term branches slots nodes p IF = do
     s ← byte
-    limits p slots (suc nodes)
-    t ← term slots (suc nodes)
-    u ← term slots (suc nodes)
+    let after = bound IF slots
+    limits p after (suc nodes)
+    t ← term after (suc nodes)
+    u ← term after (suc nodes)
     return (Term.IF p s t u)
   -- 3, at the mark: "a mark not allowed here"
   node term branches slots nodes p CN = fail 3 p
@@ -210,7 +226,7 @@ module _ (constructors : List Constructor) (functions : List Signature) where
     branches (suc n) zero extra slots nodes = return Branches.end
     branches (suc n) (suc k) extra slots nodes = do
       p ← here
-      expect 0x4252
+      expect (code BR)
       c ← declared constructors any
       let s = slots + (length (c .1) + extra (c .1))
       limits p s nodes
@@ -240,12 +256,12 @@ finish at (b ∷ bytes) = refuse 6 at
 -- BD before each body but the first
 abbrev pub between : List Signature → Reader (Unit {0})
 between [] = return tt
-between (f ∷ fs) = expect 0x4244
+between (f ∷ fs) = expect (code BD)
 
 -- the bodies from behind the first BD: "one BD for each FN in order, ND, and nothing else". "A body is one term"
 unfoldable pub bodies : (fuel : ℕ) → List Constructor → List Signature → List Signature → Reader (List Term)
 bodies fuel cs fs [] = do
-  expect 0x4E44
+  expect (code ND)
   finish
   return []
 bodies fuel cs fs (f ∷ rest) = do

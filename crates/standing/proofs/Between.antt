@@ -7,6 +7,7 @@ use native.Mathlib.Omega.{arith}
 use Rattle.meaning.specs.Syntax.{File}
 use Rattle.meaning.specs.Outcome.{ok}
 use Rattle.meaning.specs.Reading.{read}
+use Rattle.meaning.specs.Marks.{Mark, code}
 use Rattle.meaning.specs.Plain.{place-of}
 use Rattle.meaning.specs.Machine.{body-of}
 use Rattle.standing.specs.Bytes.{markAt}
@@ -23,12 +24,12 @@ module _ (bytes : List ℕ) (file : File) (e : read bytes ≡ ok file) (table : 
   same-end : (g : ℕ) → g < length (file .functions) → ends-of file bytes (laid bytes file opened (D .size)) g ≡ D .ends g
   same-end g h = one-end file bytes (each-stands file bytes (laid bytes file opened (D .size)) g h) (D .stands g h)
 
-  pub read-between : (g : ℕ) → suc g < length (file .functions) → (markAt bytes (D .ends g) ≡ 16964) × (place-of (body-of file (suc g)) ≡ D .ends g + 2)
+  pub read-between : (g : ℕ) → suc g < length (file .functions) → (markAt bytes (D .ends g) ≡ code Mark.BD) × (place-of (body-of file (suc g)) ≡ D .ends g + 2)
   read-between g h =
-      subst (λ n. (markAt bytes n ≡ 16964) × (place-of (body-of file (suc g)) ≡ n + 2)) (same-end g (omega arith))
+      subst (λ n. (markAt bytes n ≡ code Mark.BD) × (place-of (body-of file (suc g)) ≡ n + 2)) (same-end g (omega arith))
       (laid-between file bytes (laid bytes file opened (D .size)) g h)
 
-  pub read-last : (g : ℕ) → suc g ≡ length (file .functions) → (markAt bytes (D .ends g) ≡ 20036) × (length bytes ≡ D .ends g + 2)
+  pub read-last : (g : ℕ) → suc g ≡ length (file .functions) → (markAt bytes (D .ends g) ≡ code Mark.ND) × (length bytes ≡ D .ends g + 2)
   read-last g h =
-      subst (λ n. (markAt bytes n ≡ 20036) × (length bytes ≡ n + 2)) (same-end g (omega arith))
+      subst (λ n. (markAt bytes n ≡ code Mark.ND) × (length bytes ≡ n + 2)) (same-end g (omega arith))
       (laid-last file bytes (laid bytes file opened (D .size)) g h)

@@ -12,6 +12,7 @@ use Rattle.meaning.specs.Syntax.{Signature, Term, File}
 use Rattle.meaning.specs.Outcome.{Outcome, then}
 use Rattle.meaning.specs.Reading.{ensure, expect, finish, between, term, bodies}
 use Rattle.meaning.specs.Ownership.{no-function}
+use Rattle.meaning.specs.Marks.{Mark, code}
 use Rattle.meaning.specs.Plain.{place-of, no-body}
 use Rattle.standing.specs.Bytes.{markAt}
 use Rattle.standing.specs.Stands.{Stands}
@@ -20,12 +21,12 @@ use Rattle.standing.proofs.Stood.{Stood, stood, refused, on-with}
 use Rattle.standing.proofs.Terms.{Good, term-stands}
 
 module _ {B : Type 0} (f : List ℕ) (P : B → ℕ → Type 0) where
-  expect-stood : (code a : ℕ) (k : Unit {0} × ℕ × List ℕ → Outcome (B × ℕ × List ℕ)) → a ≤ length f
-      → (markAt f a ≡ code → a + 2 ≤ length f → Stood f P (k (tt, a + 2, drop (a + 2) f))) → Stood f P (then (expect code a (drop a f)) k)
+  expect-stood : (w a : ℕ) (k : Unit {0} × ℕ × List ℕ → Outcome (B × ℕ × List ℕ)) → a ≤ length f
+      → (markAt f a ≡ w → a + 2 ≤ length f → Stood f P (k (tt, a + 2, drop (a + 2) f))) → Stood f P (then (expect w a (drop a f)) k)
   unfolding expect
-  expect-stood code a k h goes =
-      two-gen f (Stood f P) (λ x y. ensure 3 a (eqb (x * 256 + y) code)) a k h (λ _. refused)
-      (λ l. ensure-gen f (Stood f P) 3 a (a + 2) (drop (a + 2) f) (eqb (markAt f a) code) k (λ _. refused) (λ q. goes (eqb-true (markAt f a) code q) l))
+  expect-stood w a k h goes =
+      two-gen f (Stood f P) (λ x y. ensure 3 a (eqb (x * 256 + y) w)) a k h (λ _. refused)
+      (λ l. ensure-gen f (Stood f P) 3 a (a + 2) (drop (a + 2) f) (eqb (markAt f a) w) k (λ _. refused) (λ q. goes (eqb-true (markAt f a) w q) l))
 
   finish-stood : (a : ℕ) (k : Unit {0} × ℕ × List ℕ → Outcome (B × ℕ × List ℕ)) → a ≤ length f
       → (length f ≡ a → Stood f P (k (tt, a, drop a f))) → Stood f P (then (finish a (drop a f)) k)
@@ -42,12 +43,12 @@ module _ {B : Type 0} (f : List ℕ) (P : B → ℕ → Type 0) where
   -- what stands between a body's end and the next place that is read
   abbrev pub Follows : List Signature → (stop next : ℕ) → Type 0
   Follows [] stop next = next ≡ stop
-  Follows (g ∷ gs) stop next = (markAt f stop ≡ 16964) × (next ≡ stop + 2)
+  Follows (g ∷ gs) stop next = (markAt f stop ≡ code Mark.BD) × (next ≡ stop + 2)
 
   between-stood : (gs : List Signature) (a : ℕ) (k : Unit {0} × ℕ × List ℕ → Outcome (B × ℕ × List ℕ)) → a ≤ length f
       → ((n : ℕ) → Follows gs a n → n ≤ length f → Stood f P (k (tt, n, drop n f))) → Stood f P (then (between gs a (drop a f)) k)
   between-stood [] a k h goes = goes a refl h
-  between-stood (g ∷ gs) a k h goes = expect-stood 16964 a k h (λ e l. goes (a + 2) (e, refl) l)
+  between-stood (g ∷ gs) a k h goes = expect-stood (code Mark.BD) a k h (λ e l. goes (a + 2) (e, refl) l)
 
 module _ (file : File) (f : List ℕ) where
   abbrev Next : List Signature → (stop next : ℕ) → Type 0
@@ -55,7 +56,7 @@ module _ (file : File) (f : List ℕ) where
 
   -- bodies for these functions, from a place on
   pub data Laid : List Signature → (at : ℕ) → List Term → Type 0 where
-    last : {at : ℕ} → markAt f at ≡ 20036 → length f ≡ at + 2 → Laid [] at []
+    last : {at : ℕ} → markAt f at ≡ code Mark.ND → length f ≡ at + 2 → Laid [] at []
     body : {g : Signature} {gs : List Signature} {at stop next : ℕ} {t : Term} {ts : List Term} → at ≤ length f → place-of t ≡ at
         → Stands file f (length (g .parameters)) t stop → Next gs stop next → Laid gs next ts → Laid (g ∷ gs) at (t ∷ ts)
 
@@ -63,7 +64,7 @@ module _ (file : File) (f : List ℕ) where
       → Stood f (λ ts n. Laid gs at ts) (bodies fuel (file .constructors) (file .functions) gs at (drop at f))
   unfolding bodies
   bodies-stood fuel [] at h =
-      expect-stood f (λ ts n. Laid [] at ts) 20036 at _ h (λ e l. finish-stood f (λ ts n. Laid [] at ts) (at + 2) _ l (λ q. stood refl l (last e q)))
+      expect-stood f (λ ts n. Laid [] at ts) (code Mark.ND) at _ h (λ e l. finish-stood f (λ ts n. Laid [] at ts) (at + 2) _ l (λ q. stood refl l (last e q)))
   bodies-stood fuel (g ∷ gs) at h =
       on-with f (Good file f at (length (g .parameters))) (λ ts n. Laid (g ∷ gs) at ts) (term (file .constructors) (file .functions) fuel (length (g .parameters)) 0 at (drop at f)) _
       (term-stands file f fuel (length (g .parameters)) 0 at h)
@@ -99,7 +100,7 @@ module _ (file : File) (f : List ℕ) where
 
   -- BD and the next body behind each body but the last, ND and the file's end behind that
   pub laid-between : {gs : List Signature} {at : ℕ} {ts : List Term} (l : Laid gs at ts) (i : ℕ) → suc i < length gs
-      → (markAt f (ends-of l i) ≡ 16964) × (place-of (getD ts (suc i) no-body) ≡ ends-of l i + 2)
+      → (markAt f (ends-of l i) ≡ code Mark.BD) × (place-of (getD ts (suc i) no-body) ≡ ends-of l i + 2)
   unfolding ends-of
   laid-between (last m e) i u = absurd (omega arith)
   laid-between (body h p s n (last m e)) zero u = absurd (omega arith)
@@ -107,9 +108,9 @@ module _ (file : File) (f : List ℕ) where
   laid-between (body h p s n l) (suc i) u = laid-between l i (omega arith)
 
   pub laid-last : {gs : List Signature} {at : ℕ} {ts : List Term} (l : Laid gs at ts) (i : ℕ) → suc i ≡ length gs
-      → (markAt f (ends-of l i) ≡ 20036) × (length f ≡ ends-of l i + 2)
+      → (markAt f (ends-of l i) ≡ code Mark.ND) × (length f ≡ ends-of l i + 2)
   unfolding ends-of
   laid-last (last m e) i u = absurd (omega arith)
-  laid-last (body h p s n (last m e)) zero u = (subst (λ a. markAt f a ≡ 20036) n m, e ∙ ap (λ a. a + 2) n)
+  laid-last (body h p s n (last m e)) zero u = (subst (λ a. markAt f a ≡ code Mark.ND) n m, e ∙ ap (λ a. a + 2) n)
   laid-last (body h p s n (body h′ p′ s′ n′ l)) zero u = absurd (omega arith)
   laid-last (body h p s n l) (suc i) u = laid-last l i (omega arith)

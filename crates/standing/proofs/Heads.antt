@@ -9,7 +9,7 @@ use native.Mathlib.Omega.{arith}
 use borrow.Author.Tests.{ltb-true, leb-true}
 use Rattle.meaning.specs.Syntax.{Signature, Constructor, Term, File}
 use Rattle.meaning.specs.Outcome.{Outcome, ok, refuse, then}
-use Rattle.meaning.specs.Marks.{Mark, CN, FN, BD, ND, GV, AT, MK, CL, TL, OP, LK, BR, NU, AR, IF, other, find, marks, markOf}
+use Rattle.meaning.specs.Marks.{Mark, CN, FN, BD, ND, GV, AT, MK, CL, TL, OP, LK, BR, NU, AR, IF, other, find, marks, code, markOf}
 use Rattle.meaning.specs.Reading.{Reader, mark, constructor, signature, bodies, entry, header, read}
 use Rattle.standing.specs.Bytes.{markAt}
 use Rattle.standing.specs.Table.{con-end, fun-end, Sorts}
@@ -63,7 +63,7 @@ module _ (f : List ℕ) where
     pub heads : Heads (file .constructors) (file .functions) at
     pub first : 1 ≤ length (file .functions)
     pub inside : at + 2 ≤ length f
-    pub opens : markAt f at ≡ 16964
+    pub opens : markAt f at ≡ code BD
     pub result : List Term × ℕ × List ℕ
     pub reads : bodies (length f) (file .constructors) (file .functions) (file .functions) (at + 2) (drop (at + 2) f) ≡ ok result
     pub gives : result .0 ≡ file .bodies
@@ -114,7 +114,7 @@ module _ (f : List ℕ) where
         (λ g n l x. ensure-gen f Told 5 at n (drop n f) (ltb (length fs) 32) _ (λ _. untold)
         (λ q. on cs (fs ++ (g ∷ [])) n l (fun-more cs fs at H g n (ltb-true (length fs) 32 q) l (x .0) (x .1))))
 
-    on-BD : (fs : List Signature) → Heads cs fs at → markAt f at ≡ 16964 → Told (entry G (length f) cs at BD fs (at + 2) (drop (at + 2) f))
+    on-BD : (fs : List Signature) → Heads cs fs at → markAt f at ≡ code BD → Told (entry G (length f) cs at BD fs (at + 2) (drop (at + 2) f))
     unfolding entry
     on-BD [] H m = untold
     on-BD (g ∷ fs) H m = go (bodies (length f) cs (g ∷ fs) (g ∷ fs) (at + 2) (drop (at + 2) f)) refl

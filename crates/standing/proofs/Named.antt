@@ -5,24 +5,24 @@ use mathlib.Core.Bool.{Bool, true, false}
 use mathlib.Core.Path.{_≡_, refl}
 use lib.Dec.{eqb}
 use borrow.Author.Tests.{eqb-true}
-use Rattle.meaning.specs.Marks.{Mark, CN, FN, BD, ND, GV, AT, MK, CL, TL, OP, LK, BR, NU, AR, IF, other, find, marks, markOf}
+use Rattle.meaning.specs.Marks.{Mark, CN, FN, BD, ND, GV, AT, MK, CL, TL, OP, LK, BR, NU, AR, IF, other, find, marks, code, markOf}
 
 abbrev pub Named : ℕ → Mark → Type 0
-Named w CN = w ≡ 17230
-Named w FN = w ≡ 17998
-Named w BD = w ≡ 16964
-Named w ND = w ≡ 20036
-Named w GV = w ≡ 18262
-Named w AT = w ≡ 16724
-Named w MK = w ≡ 19787
-Named w CL = w ≡ 17228
-Named w TL = w ≡ 21580
-Named w OP = w ≡ 20304
-Named w LK = w ≡ 19531
-Named w BR = w ≡ 16978
-Named w NU = w ≡ 20053
-Named w AR = w ≡ 16722
-Named w IF = w ≡ 18758
+Named w CN = w ≡ code CN
+Named w FN = w ≡ code FN
+Named w BD = w ≡ code BD
+Named w ND = w ≡ code ND
+Named w GV = w ≡ code GV
+Named w AT = w ≡ code AT
+Named w MK = w ≡ code MK
+Named w CL = w ≡ code CL
+Named w TL = w ≡ code TL
+Named w OP = w ≡ code OP
+Named w LK = w ≡ code LK
+Named w BR = w ≡ code BR
+Named w NU = w ≡ code NU
+Named w AR = w ≡ code AR
+Named w IF = w ≡ code IF
 Named w other = Unit {0}
 
 abbrev Every : (P : Mark → Type 0) → ℕ → List (ℕ × Mark) → Type 0

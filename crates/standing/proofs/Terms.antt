@@ -10,7 +10,7 @@ use native.Mathlib.Omega.{arith}
 use borrow.Author.Tests.{leb-true, eqb-true}
 use Rattle.meaning.specs.Syntax.{Signature, Constructor, Term, Branches, File}
 use Rattle.meaning.specs.Outcome.{Outcome, ok, then}
-use Rattle.meaning.specs.Marks.{Mark, CN, FN, BD, ND, GV, AT, MK, CL, TL, OP, LK, BR, NU, AR, IF, other, find, marks, markOf}
+use Rattle.meaning.specs.Marks.{Mark, CN, FN, BD, ND, GV, AT, MK, CL, TL, OP, LK, BR, NU, AR, IF, other, find, marks, code, markOf}
 use Rattle.meaning.specs.Reading.{Reader, byte, ensure, any, is-atom, is-node, credits, limits, node, mark, expect, term, branches}
 use Rattle.meaning.specs.Ownership.{no-function}
 use Rattle.meaning.specs.Plain.{place-of}
@@ -214,7 +214,7 @@ module _ (file : File) (f : List ℕ) where
       two-gen f (Stood f (Good at s)) (λ x y a b. ok (find (x * 256 + y) marks other, a, b)) at _ h (λ _. refused)
       (λ l. node-stands at s k (λ s′ k′. term cs fs n s′ k′) (λ c x s′ k′. branches cs fs n c x s′ k′) hT hB l (markOf (markAt f at)) (named (markAt f at)))
 
-  branch : (at s b n : ℕ) (extra : Constructor → ℕ) (x : Constructor) (t : Term) (bs : Branches) → markAt f at ≡ 16978 → at + 3 ≤ length f → getElem? cs (getD f (at + 2) 0) ≡ some x
+  branch : (at s b n : ℕ) (extra : Constructor → ℕ) (x : Constructor) (t : Term) (bs : Branches) → markAt f at ≡ code BR → at + 3 ≤ length f → getElem? cs (getD f (at + 2) 0) ≡ some x
       → s + (length x + extra x) ≤ 32 → place-of t ≡ suc (at + 2) → Stands file f (s + (length x + extra x)) t b → Each file f s extra b bs n
       → Each file f s extra at (Branches.BR at (getD f (at + 2) 0) t bs) n
   branch at s b n extra x t bs m l e w d y r =
@@ -226,13 +226,13 @@ module _ (file : File) (f : List ℕ) where
   unfolding branches expect limits
   lists-turn n hT hB zero x s k at h = stood refl h (refl, Standing.end refl)
   lists-turn n hT hB (suc c) extra s k at h =
-      two-gen f Goal′ (λ x y. ensure 3 at (eqb (x * 256 + y) 16978)) at _ h (λ _. refused)
-      (λ l. ensure-gen f Goal′ 3 at (at + 2) (drop (at + 2) f) (eqb (markAt f at) 16978) _ (λ _. refused)
+      two-gen f Goal′ (λ x y. ensure 3 at (eqb (x * 256 + y) (code BR))) at _ h (λ _. refused)
+      (λ l. ensure-gen f Goal′ 3 at (at + 2) (drop (at + 2) f) (eqb (markAt f at) (code BR)) _ (λ _. refused)
       (λ q. declared-gen f Goal′ cs any (at + 2) _ l (λ _. refused) (λ _ _. refused) (λ _ _ _ _. refused)
       (λ l′ x e z. ensure-gen f Goal′ 5 at (suc (at + 2)) (drop (suc (at + 2)) f) (leb k 64 && leb (after x) 32) _ (λ _. refused)
       (λ w. on-with f (Good (suc (at + 2)) (after x)) (Goods extra (suc c) at s) (term cs fs n (after x) k (suc (at + 2)) (drop (suc (at + 2)) f)) _ (hT (after x) k (suc (at + 2)) l′)
       (λ t b v y. on-with f (Goods extra c b s) (Goods extra (suc c) at s) (branches cs fs n c extra s k b (drop b f)) _ (hB c extra s k b v)
-      (λ bs m u y′. stood refl u (ap suc (y′ .0), branch at s b m extra x t bs (eqb-true (markAt f at) 16978 q) (omega arith) e (fit k (after x) w) (y .0) (y .1) (y′ .1))))))))
+      (λ bs m u y′. stood refl u (ap suc (y′ .0), branch at s b m extra x t bs (eqb-true (markAt f at) (code BR) q) (omega arith) e (fit k (after x) w) (y .0) (y .1) (y′ .1))))))))
     where
       Goal′ : Outcome (Branches × ℕ × List ℕ) → Type 0
       Goal′ o = Stood f (Goods extra (suc c) at s) o

@@ -6,8 +6,9 @@ use mathlib.Core.Path.{_≡_}
 use lib.ListN.{length, getD}
 use Rattle.meaning.specs.Syntax.{Term, Branches, Constructor, File}
 use Rattle.meaning.specs.Syntax as S
+use Rattle.meaning.specs.Marks.{Mark, code, size}
 use Rattle.meaning.specs.Plain.{place-of}
-use Rattle.meaning.specs.Reading.{credits}
+use Rattle.meaning.specs.Reading.{credits, bound}
 use Rattle.meaning.specs.Machine.{function-of}
 use Rattle.standing.specs.Bytes.{byteAt, markAt}
 
@@ -26,33 +27,33 @@ module _ (file : File) (bytes : List ℕ) where
 
   mutual
     pub data Stands : (slots : ℕ) → Term → (next : ℕ) → Type 0 where
-      GV : {slots p s next : ℕ} → markAt bytes p ≡ 18262 → p + 3 ≤ length bytes → byteAt bytes (p + 2) ≡ s → next ≡ p + 3 → Stands slots (S.GV p s) next
-      AT : {slots p c next : ℕ} {t : Term} → markAt bytes p ≡ 16724 → p + 3 ≤ length bytes → byteAt bytes (p + 2) ≡ c → slots < 32
-          → place-of t ≡ p + 3 → Stands (suc slots) t next → Stands slots (S.AT p c t) next
-      MK : {slots p c k next : ℕ} {ss : List ℕ} {t : Term} → markAt bytes p ≡ 19787 → p + 4 + length ss ≤ length bytes → byteAt bytes (p + 2) ≡ c
-          → byteAt bytes (p + 3) ≡ k → Listed bytes (p + 4) ss → c < length (file .constructors) → length ss ≡ arity c → slots < 32
-          → place-of t ≡ p + 4 + length ss → Stands (suc slots) t next → Stands slots (S.MK p c k ss t) next
-      CL : {slots p f next : ℕ} {ss : List ℕ} {t : Term} → markAt bytes p ≡ 17228 → p + 3 + length ss ≤ length bytes → byteAt bytes (p + 2) ≡ f
-          → Listed bytes (p + 3) ss → f < length (file .functions) → length ss ≡ length (function-of file f .parameters) → slots < 32
-          → place-of t ≡ p + 3 + length ss → Stands (suc slots) t next → Stands slots (S.CL p f ss t) next
-      TL : {slots p f next : ℕ} {ss : List ℕ} → markAt bytes p ≡ 21580 → p + 3 + length ss ≤ length bytes → byteAt bytes (p + 2) ≡ f
-          → Listed bytes (p + 3) ss → f < length (file .functions) → length ss ≡ length (function-of file f .parameters)
-          → next ≡ p + 3 + length ss → Stands slots (S.TL p f ss) next
-      OP : {slots p s next : ℕ} {bs : Branches} → markAt bytes p ≡ 20304 → p + 4 ≤ length bytes → byteAt bytes (p + 2) ≡ s → byteAt bytes (p + 3) ≡ count bs
-          → Each slots credits (p + 4) bs next → Stands slots (S.OP p s bs) next
-      LK : {slots p s next : ℕ} {bs : Branches} → markAt bytes p ≡ 19531 → p + 4 ≤ length bytes → byteAt bytes (p + 2) ≡ s → byteAt bytes (p + 3) ≡ count bs
-          → Each slots (λ c. 0) (p + 4) bs next → Stands slots (S.LK p s bs) next
-      NU : {slots p n next : ℕ} {t : Term} → markAt bytes p ≡ 20053 → p + 4 ≤ length bytes → byteAt bytes (p + 2) * 256 + byteAt bytes (p + 3) ≡ n → slots < 32
-          → place-of t ≡ p + 4 → Stands (suc slots) t next → Stands slots (S.NU p n t) next
-      AR : {slots p o x y next : ℕ} {t : Term} → markAt bytes p ≡ 16722 → p + 5 ≤ length bytes → byteAt bytes (p + 2) ≡ o → byteAt bytes (p + 3) ≡ x
-          → byteAt bytes (p + 4) ≡ y → slots < 32 → place-of t ≡ p + 5 → Stands (suc slots) t next → Stands slots (S.AR p o x y t) next
-      IF : {slots p s second next : ℕ} {t u : Term} → markAt bytes p ≡ 18758 → p + 3 ≤ length bytes → byteAt bytes (p + 2) ≡ s
-          → place-of t ≡ p + 3 → Stands slots t second → place-of u ≡ second → Stands slots u next → Stands slots (S.IF p s t u) next
+      GV : {slots p s next : ℕ} → markAt bytes p ≡ code Mark.GV → p + size Mark.GV ≤ length bytes → byteAt bytes (p + 2) ≡ s → next ≡ p + size Mark.GV → Stands slots (S.GV p s) next
+      AT : {slots p c next : ℕ} {t : Term} → markAt bytes p ≡ code Mark.AT → p + size Mark.AT ≤ length bytes → byteAt bytes (p + 2) ≡ c → bound Mark.AT slots ≤ 32
+          → place-of t ≡ p + size Mark.AT → Stands (bound Mark.AT slots) t next → Stands slots (S.AT p c t) next
+      MK : {slots p c k next : ℕ} {ss : List ℕ} {t : Term} → markAt bytes p ≡ code Mark.MK → p + size Mark.MK + length ss ≤ length bytes → byteAt bytes (p + 2) ≡ c
+          → byteAt bytes (p + 3) ≡ k → Listed bytes (p + size Mark.MK) ss → c < length (file .constructors) → length ss ≡ arity c → bound Mark.MK slots ≤ 32
+          → place-of t ≡ p + size Mark.MK + length ss → Stands (bound Mark.MK slots) t next → Stands slots (S.MK p c k ss t) next
+      CL : {slots p f next : ℕ} {ss : List ℕ} {t : Term} → markAt bytes p ≡ code Mark.CL → p + size Mark.CL + length ss ≤ length bytes → byteAt bytes (p + 2) ≡ f
+          → Listed bytes (p + size Mark.CL) ss → f < length (file .functions) → length ss ≡ length (function-of file f .parameters) → bound Mark.CL slots ≤ 32
+          → place-of t ≡ p + size Mark.CL + length ss → Stands (bound Mark.CL slots) t next → Stands slots (S.CL p f ss t) next
+      TL : {slots p f next : ℕ} {ss : List ℕ} → markAt bytes p ≡ code Mark.TL → p + size Mark.TL + length ss ≤ length bytes → byteAt bytes (p + 2) ≡ f
+          → Listed bytes (p + size Mark.TL) ss → f < length (file .functions) → length ss ≡ length (function-of file f .parameters)
+          → next ≡ p + size Mark.TL + length ss → Stands slots (S.TL p f ss) next
+      OP : {slots p s next : ℕ} {bs : Branches} → markAt bytes p ≡ code Mark.OP → p + size Mark.OP ≤ length bytes → byteAt bytes (p + 2) ≡ s → byteAt bytes (p + 3) ≡ count bs
+          → Each (bound Mark.OP slots) credits (p + size Mark.OP) bs next → Stands slots (S.OP p s bs) next
+      LK : {slots p s next : ℕ} {bs : Branches} → markAt bytes p ≡ code Mark.LK → p + size Mark.LK ≤ length bytes → byteAt bytes (p + 2) ≡ s → byteAt bytes (p + 3) ≡ count bs
+          → Each (bound Mark.LK slots) (λ c. 0) (p + size Mark.LK) bs next → Stands slots (S.LK p s bs) next
+      NU : {slots p n next : ℕ} {t : Term} → markAt bytes p ≡ code Mark.NU → p + size Mark.NU ≤ length bytes → byteAt bytes (p + 2) * 256 + byteAt bytes (p + 3) ≡ n → bound Mark.NU slots ≤ 32
+          → place-of t ≡ p + size Mark.NU → Stands (bound Mark.NU slots) t next → Stands slots (S.NU p n t) next
+      AR : {slots p o x y next : ℕ} {t : Term} → markAt bytes p ≡ code Mark.AR → p + size Mark.AR ≤ length bytes → byteAt bytes (p + 2) ≡ o → byteAt bytes (p + 3) ≡ x
+          → byteAt bytes (p + 4) ≡ y → bound Mark.AR slots ≤ 32 → place-of t ≡ p + size Mark.AR → Stands (bound Mark.AR slots) t next → Stands slots (S.AR p o x y t) next
+      IF : {slots p s second next : ℕ} {t u : Term} → markAt bytes p ≡ code Mark.IF → p + size Mark.IF ≤ length bytes → byteAt bytes (p + 2) ≡ s
+          → place-of t ≡ p + size Mark.IF → Stands (bound Mark.IF slots) t second → place-of u ≡ second → Stands (bound Mark.IF slots) u next → Stands slots (S.IF p s t u) next
 
     -- the branches of a list, from a place on; `extra` is what each binds besides the fields
     pub data Each : (slots : ℕ) → (extra : Constructor → ℕ) → (at : ℕ) → Branches → (next : ℕ) → Type 0 where
       end : {slots at next : ℕ} {extra : Constructor → ℕ} → next ≡ at → Each slots extra at S.end next
-      BR : {slots at p c second next : ℕ} {extra : Constructor → ℕ} {t : Term} {bs : Branches} → at ≡ p → markAt bytes p ≡ 16978 → p + 3 ≤ length bytes
+      BR : {slots at p c second next : ℕ} {extra : Constructor → ℕ} {t : Term} {bs : Branches} → at ≡ p → markAt bytes p ≡ code Mark.BR → p + size Mark.BR ≤ length bytes
           → byteAt bytes (p + 2) ≡ c → c < length (file .constructors) → slots + (arity c + extra (getD (file .constructors) c [])) ≤ 32
-          → place-of t ≡ p + 3 → Stands (slots + (arity c + extra (getD (file .constructors) c []))) t second
+          → place-of t ≡ p + size Mark.BR → Stands (slots + (arity c + extra (getD (file .constructors) c []))) t second
           → Each slots extra second bs next → Each slots extra at (S.BR p c t bs) next

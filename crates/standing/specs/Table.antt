@@ -4,27 +4,32 @@ use mathlib.Core.List.{List, [], _∷_, _++_, map}
 use mathlib.Core.Path.{_≡_}
 use lib.ListN.{length, getD, replicate}
 use Rattle.meaning.specs.Syntax.{Sort, Mode, Signature, Constructor, File}
+use Rattle.meaning.specs.Marks.{Mark, size, mark-size}
 use Rattle.meaning.specs.Plain.{place-of}
 use Rattle.meaning.specs.Machine.{function-of, body-of}
 use Rattle.standing.specs.Bytes.{byteAt, arityIn, fieldsIn, paramsIn, modesIn, bodyIn}
 use Rattle.standing.specs.Stands.{arity, Stands}
 
+-- the bytes of a mark and of the count behind it: from there on stand a constructor's sorts, or a function's modes
+abbrev pub counted : ℕ
+counted = mark-size + 1
+
 -- the words of constructors whose records stand one after the other from a place on, and the place behind them
 unfoldable pub con-words : (at : ℕ) → List Constructor → List ℕ
 con-words at [] = []
-con-words at (c ∷ cs) = (length c + 256 * (at + 3)) ∷ con-words (at + 3 + length c) cs
+con-words at (c ∷ cs) = (length c + 256 * (at + counted)) ∷ con-words (at + size Mark.CN + length c) cs
 
 unfoldable pub con-end : (at : ℕ) → List Constructor → ℕ
 con-end at [] = at
-con-end at (c ∷ cs) = con-end (at + 3 + length c) cs
+con-end at (c ∷ cs) = con-end (at + size Mark.CN + length c) cs
 
 unfoldable pub fun-words : (at : ℕ) → List Signature → List ℕ
 fun-words at [] = []
-fun-words at (f ∷ fs) = (length (f .parameters) + 256 * (at + 3)) ∷ fun-words (at + 4 + length (f .parameters)) fs
+fun-words at (f ∷ fs) = (length (f .parameters) + 256 * (at + counted)) ∷ fun-words (at + size Mark.FN + length (f .parameters)) fs
 
 unfoldable pub fun-end : (at : ℕ) → List Signature → ℕ
 fun-end at [] = at
-fun-end at (f ∷ fs) = fun-end (at + 4 + length (f .parameters)) fs
+fun-end at (f ∷ fs) = fun-end (at + size Mark.FN + length (f .parameters)) fs
 
 -- so many words, 255 behind those that are given: nothing is declared there
 unfoldable pub filled : (size : ℕ) → List ℕ → List ℕ

@@ -9,7 +9,7 @@ use lib.ListN.{length, getD, getElem?}
 use lib.Dec.{ltb, leb, eqb}
 use Rattle.meaning.specs.Syntax.{Signature, Term, Branches, Constructor, File}
 use Rattle.meaning.specs.Syntax as S
-use Rattle.meaning.specs.Marks.{Mark, CN, FN, BD, ND, GV, AT, MK, CL, TL, OP, LK, BR, NU, AR, IF, other}
+use Rattle.meaning.specs.Marks.{Mark, CN, FN, BD, ND, GV, AT, MK, CL, TL, OP, LK, BR, NU, AR, IF, other, code}
 use Rattle.meaning.specs.Outcome.{Outcome, ok, refuse, then}
 use Rattle.meaning.specs.Reading.{Reader, byte, ensure, fail, below, times, mark, expect, sort, mode, declared, any, is-atom, is-node, credits, limits, node, term, branches, constructor, signature, finish, between, bodies, entry, header, read}
 use Rattle.meaning.specs.Ownership.{no-function}
@@ -54,11 +54,11 @@ mark-reads : Reads Always mark
 unfolding mark
 mark-reads at bytes = follow (byte at bytes) _ (byte-reads at bytes) (λ a _. follow (byte (a .1) (a .2)) _ (byte-reads (a .1) (a .2)) (λ b _. Told.good tt))
 
-expect-reads : (code : ℕ) → Reads Always (expect code)
+expect-reads : (w : ℕ) → Reads Always (expect w)
 unfolding expect
-expect-reads code at bytes =
+expect-reads w at bytes =
     follow (byte at bytes) _ (byte-reads at bytes) (λ a _. follow (byte (a .1) (a .2)) _ (byte-reads (a .1) (a .2))
-    (λ b _. ensure-reads 3 at (eqb (a .0 * 256 + b .0) code) (omega arith) (omega arith) (b .1) (b .2)))
+    (λ b _. ensure-reads 3 at (eqb (a .0 * 256 + b .0) w) (omega arith) (omega arith) (b .1) (b .2)))
 
 sort-reads : Reads Always sort
 unfolding sort
@@ -179,7 +179,7 @@ module _ (cs : List Constructor) (fs : List Signature) where
     branches-reads zero k extra slots nodes at bytes = Told.bad {n = 2} (omega arith) (omega arith)
     branches-reads (suc n) zero extra slots nodes at bytes = Told.good tt
     branches-reads (suc n) (suc k) extra slots nodes at bytes =
-        follow (expect 0x4252 at bytes) _ (expect-reads 0x4252 at bytes) (λ x _.
+        follow (expect (code BR) at bytes) _ (expect-reads (code BR) at bytes) (λ x _.
         follow (declared cs any (x .1) (x .2)) _ (declared-reads cs any (x .1) (x .2)) (λ c _.
         let s : ℕ = slots + (length (c .0 .1) + extra (c .0 .1)) in
         follow (limits cs fs at s nodes (c .1) (c .2)) _ (limits-reads at s nodes (c .1) (c .2)) (λ b _.
@@ -200,12 +200,12 @@ module _ (cs : List Constructor) (fs : List Signature) where
 
   between-reads : (gs : List Signature) → Reads Always (between gs)
   between-reads [] at bytes = Told.good tt
-  between-reads (g ∷ gs) at bytes = expect-reads 0x4244 at bytes
+  between-reads (g ∷ gs) at bytes = expect-reads (code BD) at bytes
 
   bodies-reads : (fuel : ℕ) (gs : List Signature) → Reads (Bodies-fit gs) (bodies fuel cs fs gs)
   unfolding bodies
   bodies-reads fuel [] at bytes =
-      follow (expect 0x4E44 at bytes) _ (expect-reads 0x4E44 at bytes) (λ x _.
+      follow (expect (code ND) at bytes) _ (expect-reads (code ND) at bytes) (λ x _.
       follow (finish (x .1) (x .2)) _ (finish-reads (x .1) (x .2)) (λ y _. Told.good tt))
   bodies-reads fuel (g ∷ gs) at bytes =
       follow (term cs fs fuel (length (g .parameters)) 0 at bytes) _ (term-reads fuel (length (g .parameters)) 0 at bytes) (λ t h.

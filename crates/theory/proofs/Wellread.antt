@@ -10,7 +10,7 @@ use borrow.Author.Tests.{ltb-true}
 use lib.Dec.{ltb, leb}
 use Rattle.meaning.specs.Syntax.{Sort, Signature, Term, Branches, Constructor, File}
 use Rattle.meaning.specs.Outcome.{Outcome, ok, refuse, _>>=_}
-use Rattle.meaning.specs.Marks.{Mark, CN, FN, BD, ND, GV, AT, MK, CL, TL, OP, LK, BR, NU, AR, IF, other}
+use Rattle.meaning.specs.Marks.{Mark, CN, FN, BD, ND, GV, AT, MK, CL, TL, OP, LK, BR, NU, AR, IF, other, code}
 use Rattle.meaning.specs.Reading.{Reader, byte, ensure, below, times, mark, expect, declared, any, is-atom, is-node, credits, limits, node, term, branches, fail, bodies, between, finish, entry, header, read, constructor, signature, sort}
 use Rattle.meaning.specs.Plain.{no-body}
 use Rattle.meaning.specs.Ownership.{check-file}
@@ -155,7 +155,7 @@ module _ (cs : List Constructor) (fs : List Signature) (few : length cs ≤ 64) 
     branches-formed zero k extra slots nodes at bytes r e = absurd (refused e)
     branches-formed (suc n) zero extra slots nodes at bytes r e = subst (λ z. All-formed (z .0) cs) (got e) tt
     branches-formed (suc n) (suc k) extra slots nodes at bytes r e =
-        let x = steps-ok (expect 0x4252 at bytes) _ e in
+        let x = steps-ok (expect (code BR) at bytes) _ e in
         let c = steps-ok (declared cs any (x .0 .1) (x .0 .2)) _ (x .2) in
         let s : ℕ = slots + (length (c .0 .0 .1) + extra (c .0 .0 .1)) in
         let b = steps-ok (limits cs fs at s nodes (c .0 .1) (c .0 .2)) _ (c .2) in
@@ -167,7 +167,7 @@ module _ (cs : List Constructor) (fs : List Signature) (few : length cs ≤ 64) 
       → (f : ℕ) → Formed (getD (r .0) f no-body) cs
   unfolding bodies
   bodies-formed fuel [] at bytes r e f =
-      let x = steps-ok (expect 0x4E44 at bytes) _ e in
+      let x = steps-ok (expect (code ND) at bytes) _ e in
       let y = steps-ok (finish (x .0 .1) (x .0 .2)) _ (x .2) in
       subst (λ z. Formed (getD (z .0) f no-body) cs) (got (y .2)) tt
   bodies-formed fuel (g ∷ gs) at bytes r e f =
@@ -186,7 +186,7 @@ module _ (cs : List Constructor) (fs : List Signature) (few : length cs ≤ 64) 
       → length (r .0) ≡ length gs
   unfolding bodies
   bodies-many fuel [] at bytes r e =
-      let x = steps-ok (expect 0x4E44 at bytes) _ e in
+      let x = steps-ok (expect (code ND) at bytes) _ e in
       let y = steps-ok (finish (x .0 .1) (x .0 .2)) _ (x .2) in
       subst (λ z. length (z .0) ≡ 0) (got (y .2)) refl
   bodies-many fuel (g ∷ gs) at bytes r e =

@@ -15,7 +15,7 @@ use Rattle.meaning.specs.Syntax.{Sort, Signature, Constructor, Term, File}
 use Rattle.meaning.specs.Outcome.{Outcome, ok, refuse, then}
 use Rattle.meaning.specs.Plain.{place-of, no-body}
 use Rattle.meaning.specs.Machine.{body-of}
-use Rattle.meaning.specs.Marks.{Mark, CN, FN, BD, numberOf, markOf, findMark}
+use Rattle.meaning.specs.Marks.{Mark, CN, FN, BD, ND, code, numberOf, markOf, findMark}
 use Rattle.meaning.specs.Reading.{ensure, expect, term, header, bodies, between, finish, read}
 use Rattle.meaning.proofs.Table.{is-BD, is-ND}
 use Rattle.theory.proofs.Taking.{steps-ok}
@@ -49,12 +49,12 @@ span-fault (fell {x = y} {p = z}) q = cc
 
 module _ (f : List ℕ) where
   -- a mark that must stand here
-  expect-spans : (code m : ℕ) → ((w : ℕ) → eqb (findMark w) m ≡ eqb w code) → (at : ℕ) → at ≤ length f → Spans f (at + 2) (expect code at (drop at f)) (expectAt f at m)
+  expect-spans : (word m : ℕ) → ((w : ℕ) → eqb (findMark w) m ≡ eqb w word) → (at : ℕ) → at ≤ length f → Spans f (at + 2) (expect word at (drop at f)) (expectAt f at m)
   unfolding expect expectAt pick
-  expect-spans code m is at h =
-      subst (λ o. Spans f (at + 2) o (expectAt f at m)) (same (expect code at (drop at f)))
-      (two-gen f Goal (λ x y. ensure 3 at (eqb (x * 256 + y) code)) at ok h (λ l. off (rw (lt-ltb (length f) (at + 2) l)))
-      (λ l. ensure-gen f Goal 3 at (at + 2) (drop (at + 2) f) (eqb (markAt f at) code) ok
+  expect-spans word m is at h =
+      subst (λ o. Spans f (at + 2) o (expectAt f at m)) (same (expect word at (drop at f)))
+      (two-gen f Goal (λ x y. ensure 3 at (eqb (x * 256 + y) word)) at ok h (λ l. off (rw (lt-ltb (length f) (at + 2) l)))
+      (λ l. ensure-gen f Goal 3 at (at + 2) (drop (at + 2) f) (eqb (markAt f at) word) ok
       (λ q. off (rw (le-ltb (length f) (at + 2) l, is (markAt f at), q)))
       (λ q. subst (Spans f (at + 2) _) (sym (on l q)) (let z : at + 2 ≤ at + 2 = omega arith in went refl z l))))
     where
@@ -68,7 +68,7 @@ module _ (f : List ℕ) where
       off : {x p : ℕ} → expectAt f at m ≡ Fault x p → Goal (refuse x p)
       off {x} {p} e = subst (Spans f (at + 2) (refuse x p)) (sym e) fell
 
-      on : at + 2 ≤ length f → eqb (markAt f at) code ≡ true → expectAt f at m ≡ Next (at + 2)
+      on : at + 2 ≤ length f → eqb (markAt f at) word ≡ true → expectAt f at m ≡ Next (at + 2)
       on l q = rw (le-ltb (length f) (at + 2) l, is (markAt f at), q)
 
   finish-spans : (at : ℕ) → at ≤ length f → Spans f at (finish at (drop at f)) (finishAt f at)
@@ -89,14 +89,14 @@ module _ (f : List ℕ) where
     none-left : (at : ℕ) → at ≤ length f → Spans f at (bodies n cs fs [] at (drop at f)) (andThen (expectAt f at 3) (λ b. finishAt f b))
     unfolding bodies
     none-left at h =
-        bind _ _ (expect-spans 0x4E44 3 is-ND at h) (λ a b l l′. within (finish b (drop b f)) _ (omega arith) (finish-spans b l′))
+        bind _ _ (expect-spans (code ND) 3 is-ND at h) (λ a b l l′. within (finish b (drop b f)) _ (omega arith) (finish-spans b l′))
 
   -- BD, by the code and by the reader of trees
-  expect-goes : (at n : ℕ) → at ≤ length f → expectAt f at 2 ≡ Next n → expect 0x4244 at (drop at f) ≡ ok (tt, n, drop n f)
-  expect-goes at n h q = span-next (expect-spans 0x4244 2 is-BD at h) q .1
+  expect-goes : (at n : ℕ) → at ≤ length f → expectAt f at 2 ≡ Next n → expect (code BD) at (drop at f) ≡ ok (tt, n, drop n f)
+  expect-goes at n h q = span-next (expect-spans (code BD) 2 is-BD at h) q .1
 
-  expect-stops : (at x p : ℕ) → at ≤ length f → expectAt f at 2 ≡ Fault x p → expect 0x4244 at (drop at f) ≡ refuse x p
-  expect-stops at x p h q = span-fault (expect-spans 0x4244 2 is-BD at h) q
+  expect-stops : (at x p : ℕ) → at ≤ length f → expectAt f at 2 ≡ Fault x p → expect (code BD) at (drop at f) ≡ refuse x p
+  expect-stops at x p h q = span-fault (expect-spans (code BD) 2 is-BD at h) q
 
   -- behind the functions the header goes on as `bodies` does between two of them
   abbrev opened : ℕ → List Constructor → List Signature → Unit {0} × ℕ × List ℕ → Outcome (File × ℕ × List ℕ)
@@ -116,13 +116,13 @@ module _ (f : List ℕ) where
   at-expect at u eu v ev = rw (eu, ev)
 
   header-opens : (m size : ℕ) (cs : List Constructor) (fs : List Signature) (at : ℕ) → at ≤ length f → 0 < length fs → (numberAt f at ≡ 1 → ⊥)
-      → header (suc m) size cs fs at (drop at f) ≡ then (expect 0x4244 at (drop at f)) (opened size cs fs)
+      → header (suc m) size cs fs at (drop at f) ≡ then (expect (code BD) at (drop at f)) (opened size cs fs)
   unfolding pick named numberOf
   header-opens m size cs [] at h k no-fun = absurd (omega arith)
   header-opens m size cs (g ∷ fs) at h k no-fun = go (ltb (length f) (at + 2)) refl (eqb (findMark (markAt f at)) 2) refl
     where
       go : (u : Bool) → ltb (length f) (at + 2) ≡ u → (v : Bool) → eqb (findMark (markAt f at)) 2 ≡ v
-          → header (suc m) size cs (g ∷ fs) at (drop at f) ≡ then (expect 0x4244 at (drop at f)) (opened size cs (g ∷ fs))
+          → header (suc m) size cs (g ∷ fs) at (drop at f) ≡ then (expect (code BD) at (drop at f)) (opened size cs (g ∷ fs))
       go true eu v ev =
           head-short f m size cs (g ∷ fs) at h (ltb-true (length f) (at + 2) eu)
           ∙ sym (ap (λ o. then o (opened size cs (g ∷ fs))) (expect-stops at 2 (length f) h (at-expect at true eu v ev)))
@@ -236,12 +236,12 @@ bodied-start f d k at h C no-fun l =
       inside = C .inside;
       reads = read-headed f d k at h C
           ∙ ap (λ o. then o (λ r. ok (r .0))) (header-opens f _ (length f) (C .constructors) (C .functions) at (C .inside) (omega arith) no-fun)
-          ∙ flat (expect 0x4244 at (drop at f)) (λ u. bodies (length f) (C .constructors) (C .functions) (C .functions) (u .1) (u .2)) (make (C .constructors) (C .functions))
+          ∙ flat (expect (code BD) at (drop at f)) (λ u. bodies (length f) (C .constructors) (C .functions) (C .functions) (u .1) (u .2)) (make (C .constructors) (C .functions))
           ∙ starts (C .constructors) (C .functions) (omega arith);
     }
   where
     starts : (cs : List Constructor) (fs : List Signature) → 0 < length fs
-        → then (expect 0x4244 at (drop at f)) (λ u. then (bodies (length f) cs fs fs (u .1) (u .2)) (λ r. ok (make cs fs (r .0)))) ≡ leftOver f cs fs [] (drop 0 fs) at
+        → then (expect (code BD) at (drop at f)) (λ u. then (bodies (length f) cs fs fs (u .1) (u .2)) (λ r. ok (make cs fs (r .0)))) ≡ leftOver f cs fs [] (drop 0 fs) at
     starts cs [] q = absurd (omega arith)
     starts cs (g ∷ fs) q = refl
 
@@ -280,7 +280,7 @@ module _ (f d : List ℕ) (count j at : ℕ) (C : Bodied f d count j at) (h : j 
   abbrev behind : Term × ℕ × List ℕ → Outcome (List Term × ℕ × List ℕ)
   behind r = then (between rest (r .1) (r .2)) (λ u. then (bodies (length f) cs fs rest (u .1) (u .2)) (λ s. ok (r .0 ∷ s .0, s .1, s .2)))
 
-  reads-on : read f ≡ then (expect 0x4244 at (drop at f)) (λ u. then (bodies (length f) cs fs (this ∷ rest) (u .1) (u .2)) (last (C .terms)))
+  reads-on : read f ≡ then (expect (code BD) at (drop at f)) (λ u. then (bodies (length f) cs fs (this ∷ rest) (u .1) (u .2)) (last (C .terms)))
   unfolding leftOver cs fs make this rest
   reads-on = C .reads ∙ ap (λ l. leftOver f cs fs (C .terms) l at) (drop-cons fs j nobody inside-list)
 
@@ -386,7 +386,7 @@ empty-then (refuse x p) h = nothing
 
 no-bodies : (n : ℕ) (cs : List Constructor) (fs : List Signature) (at : ℕ) (bytes : List ℕ) → Empty (bodies n cs fs [] at bytes)
 unfolding bodies
-no-bodies n cs fs at bytes = empty-then (expect 0x4E44 at bytes) (λ u. empty-then (finish (u .1) (u .2)) (λ v. empty))
+no-bodies n cs fs at bytes = empty-then (expect (code ND) at bytes) (λ u. empty-then (finish (u .1) (u .2)) (λ v. empty))
 
 ended-then : (cs : List Constructor) (fs : List Signature) (ts : List Term) (o : Outcome (List Term × ℕ × List ℕ)) {l : List Term} {n : ℕ} {b : List ℕ} → Empty o → o ≡ ok (l, n, b)
     → then o (λ r. ok (make cs fs (ts ++ r .0))) ≡ ok (make cs fs ts)

@@ -11,7 +11,7 @@ use borrow.Author.Tests.{leb-true, leb-false, le-leb, lt-leb, lt-ltb, le-ltb, ne
 use Rattle.meaning.specs.Syntax.{Signature, Constructor}
 use Rattle.meaning.specs.Outcome.{ok}
 use Rattle.meaning.specs.Reading.{ensure, any, limits, mark, expect, term, branches}
-use Rattle.meaning.specs.Marks.{find, marks, other, markOf, findMark}
+use Rattle.meaning.specs.Marks.{BR, code, find, marks, other, markOf, findMark}
 use Rattle.checker.specs.declared.reading.Path.{Path}
 use Rattle.checker.specs.declared.reading.Read.{Read}
 use Rattle.checker.specs.declared.reading.Read.the-variants.{Next, Fault}
@@ -49,11 +49,11 @@ module _ (fit : ℕ → Read) (f d : List ℕ) (at credit s : ℕ) where
   unfolding branchBy pick
   branch-short l = rw (lt-ltb (length f) (at + 2) l)
 
-  branch-mark : at + 2 ≤ length f → eqb (markAt f at) 16978 ≡ false → branchBy fit f d at credit s ≡ Fault 3 at
+  branch-mark : at + 2 ≤ length f → eqb (markAt f at) (code BR) ≡ false → branchBy fit f d at credit s ≡ Fault 3 at
   unfolding branchBy pick
   branch-mark l q = rw (le-ltb (length f) (at + 2) l, is-BR (markAt f at), q)
 
-  branch-in : at + 2 ≤ length f → eqb (markAt f at) 16978 ≡ true → branchBy fit f d at credit s ≡ branchFieldsBy fit f d at credit s
+  branch-in : at + 2 ≤ length f → eqb (markAt f at) (code BR) ≡ true → branchBy fit f d at credit s ≡ branchFieldsBy fit f d at credit s
   unfolding branchBy pick
   branch-in l q = rw (le-ltb (length f) (at + 2) l, is-BR (markAt f at), q)
 
@@ -109,8 +109,8 @@ module _ (f d : List ℕ) (cs : List Constructor) (fs : List Signature) (D : Dec
       (andThen (branchBy (fits at (p .nodes)) f d at credit (p .slots)) (λ s. andThen (tOf f cs fs n (at + 3) (path s (p .nodes))) (λ m. bOf f cs fs n m c credit p)))
   unfolding branches expect limits fits pick andThen arityOf
   branch-turn n hT hB p at c credit h =
-      two-law f at _ (λ x y. ensure 3 at (eqb (x * 256 + y) 16978)) at _ h (λ l. failed (branch-short _ f d at credit (p .slots) l))
-      (λ l. ensure-law f at _ 3 at (at + 2) (drop (at + 2) f) (eqb (markAt f at) 16978) _ (λ q. failed (branch-mark _ f d at credit (p .slots) l q))
+      two-law f at _ (λ x y. ensure 3 at (eqb (x * 256 + y) (code BR))) at _ h (λ l. failed (branch-short _ f d at credit (p .slots) l))
+      (λ l. ensure-law f at _ 3 at (at + 2) (drop (at + 2) f) (eqb (markAt f at) (code BR)) _ (λ q. failed (branch-mark _ f d at credit (p .slots) l q))
       (λ q. declared-law f at _ cs any (at + 2) _ l (λ l′. failed (branch-in _ f d at credit (p .slots) l q ∙ branch-no _ f d at credit (p .slots) l′))
       (λ l′ e. failed (branch-in _ f d at credit (p .slots) l q ∙ branch-at _ f d at credit (p .slots) 255 l′ (D .arities _ ∙ ap arityOf e)))
       (λ l′ x e z. let w : _≡_ {A = ℕ} 0 1 = cc in absurd (omega arith))
@@ -136,7 +136,7 @@ module _ (f d : List ℕ) (cs : List Constructor) (fs : List Signature) (D : Dec
       behind : (s : ℕ) → rest s ≡ andThen (tOf f cs fs n (suc (at + 2)) (path s (p .nodes))) (λ m. bOf f cs fs n m c credit p)
       behind s = ap (λ a. andThen (tOf f cs fs n a (path s (p .nodes))) (λ m. bOf f cs fs n m c credit p)) (three at)
 
-      told : at + 2 ≤ length f → eqb (markAt f at) 16978 ≡ true → at + 2 < length f → (x : Constructor) → getElem? cs (getD f (at + 2) 0) ≡ some x
+      told : at + 2 ≤ length f → eqb (markAt f at) (code BR) ≡ true → at + 2 < length f → (x : Constructor) → getElem? cs (getD f (at + 2) 0) ≡ some x
           → branchBy (fits at (p .nodes)) f d at credit (p .slots) ≡ fits at (p .nodes) (after x)
       told l q l′ x e =
           branch-in _ f d at credit (p .slots) l q ∙ branch-at _ f d at credit (p .slots) (length x) l′ (D .arities _ ∙ ap arityOf e)
