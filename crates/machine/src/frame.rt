@@ -1,9 +1,7 @@
-// A frame of the machine, the cells of the lent store, the state of a run, and a frame's slots in the lent work area.
-// Slot i of frame d lies at 32 * d + i; at 1024 + 2 * d lies the place where frame d goes on, and behind it its count of slots; from
-// 1088 on lie the ends of the terms that were passed over.
+// A frame of the machine, the cells of the lent store, the layout of the lent work area, the state of a run, and a frame's slots in the work area.
 ghost use mathlib.Core.Bool.{true};
 ghost use mathlib.Core.Path.{_≡_};
-ghost use Prim.Native.Nat.{_+_, _<_, _≤_};
+ghost use Prim.Native.Nat.{_+_, _/_, _<_, _≤_};
 ghost use lib.ListN.{length, replicate};
 ghost use Rattle.standing.specs.Bytes.{byteAt};
 ghost use Rattle.machine.specs.Layout.{slotIn, top, moved, ended, bound, laid, gathered, words, Rising, Apart};
@@ -20,16 +18,16 @@ impl Frame {
 
     pub const MAX: usize = 32;
 
-    pub const SAVED: usize = 1024;
+    pub const SAVED: usize = Work::SAVED;
 
-    pub const ENDS: usize = 1088;
+    pub const ENDS: usize = Work::ENDS;
 
-    // The first frame, with no term and no slots.
-    pub(crate) fn empty() -> Frame
-        ensures { λ r. ⌜ (r .at ≡ 0) × (r .depth ≡ 0) × (r .bound ≡ 0) ⌝ }
+    // The first frame at a term, with no slots.
+    fn empty(at: usize) -> Frame
+        ensures { λ r. ⌜ (r .at ≡ at) × (r .depth ≡ 0) × (r .bound ≡ 0) ⌝ }
     {
         Frame {
-            at: 0,
+            at,
             depth: 0,
             bound: 0,
         }
@@ -41,17 +39,14 @@ impl Frame {
         ensures { λ r. ⌜ (r .at ≡ at) × (r .depth ≡ 0) × (r .bound ≡ length (now (args .entry))) × (now (work .exit) ≡ laid (now (work .entry)) 0 (now (args .entry))) ⌝ }
     {
         let n = args.len();
-        load(args, work, 0, 0, n);
-        let first = Frame::empty();
-        Frame {
-            at,
-            depth: first.depth,
-            bound: n,
-        }
+        load(args, work, 0, Work::SLOTS, n);
+        let mut first = Frame::empty(at);
+        first.bound = n;
+        first
     }
 }
 
-// The lent store, by its count of cells: words each, and the word that names the first.
+// The lent store, by its count of cells: at most CELLS, of CELL words each. A word from FIRST on names a cell; a word below NUMBERS is a number.
 pub struct Store {
     pub cells: usize,
 }
@@ -62,6 +57,44 @@ impl Store {
     pub const CELL: usize = 5;
 
     pub const FIRST: u32 = 65536;
+
+    pub const NUMBERS: u32 = 65536;
+
+    // The store of so many words: the whole cells in them.
+    pub(crate) fn of(words: usize) -> Store
+        ensures { λ r. ⌜ r .cells ≡ words / 5 ⌝ }
+    {
+        Store {
+            cells: words / Store::CELL,
+        }
+    }
+}
+
+// The layout of the lent work area's first WORDS words.
+// In the start check the namings of each cell are counted from FIRST_WALK on, and by the second walk from SECOND_WALK on; the cells that a walk
+// has queued lie QUEUE words behind its counts.
+// In the steps slot i of frame d lies at SLOTS + 32 * d + i; the place where frame d goes on at SAVED + 2 * d, and behind it its count of slots;
+// the end of the term at p, once it was passed over, at ENDS + p / APART, as p * PLACE + its end.
+pub struct Work {}
+
+impl Work {
+    pub const WORDS: usize = 4096;
+
+    pub const FIRST_WALK: usize = 0;
+
+    pub const QUEUE: usize = Store::CELLS;
+
+    pub const SECOND_WALK: usize = 2 * Store::CELLS;
+
+    pub const SLOTS: usize = 0;
+
+    pub const SAVED: usize = Frame::MAX * Frame::SLOTS;
+
+    pub const ENDS: usize = Work::SAVED + 2 * Frame::MAX;
+
+    pub const APART: usize = 2;
+
+    pub const PLACE: usize = 8192;
 }
 
 // A run's state: the top frame, the greatest number of frames so far, the answer's number (99 while it goes on) and its value.

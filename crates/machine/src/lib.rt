@@ -3,8 +3,8 @@ mod frame;
 mod start;
 mod step;
 
-use crate::frame::Frame;
 use crate::frame::Store;
+use crate::frame::Work;
 use crate::start::clear;
 use crate::start::start_answer;
 use crate::start::wipe;
@@ -65,13 +65,14 @@ fn stepped(r: Ran) -> Answer
 fn unfit(store: usize, work: usize) -> bool
     ensures { λ r. ⌜ r ≡ unfitOf store work ⌝ }
 {
-    if store % Store::CELL != 0 {
+    let lent = Store::of(store);
+    if lent.cells * Store::CELL != store {
         return true;
     }
-    if Store::CELLS * Store::CELL < store {
+    if Store::CELLS < lent.cells {
         return true;
     }
-    work < 4096
+    work < Work::WORDS
 }
 
 // How many parameters function 0 has.
@@ -98,7 +99,7 @@ fn begin(
         wipe(work);
         return refused(n, 0);
     }
-    clear(work, Frame::ENDS, file.len() / 2 + 1);
+    clear(work, Work::ENDS, file.len() / Work::APART + 1);
     let r = execute(file, decl, args, store, work, budget);
     wipe(work);
     stepped(r)

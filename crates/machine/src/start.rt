@@ -1,4 +1,7 @@
 // The start of a run: answers 22, 23 and 24.
+use crate::frame::Store;
+use crate::frame::Work;
+use meaning::CONSTRUCTORS;
 ghost use mathlib.Core.Path.{_≡_};
 ghost use Prim.Native.Nat.{_+_, _-_, _/_, _<_, _≤_};
 ghost use lib.ListN.{length, getD};
@@ -10,7 +13,17 @@ ghost use Rattle.machine.specs.StartArea.{area, bumpTo, bump, cleared, u
 ghost use Rattle.meaning.specs.Answers.{wiped};
 
 // What comes back from a walk that has met a malformed word: no queue is as long.
-const BAD: usize = 4096;
+const BAD: usize = Work::WORDS;
+
+// The code of a number that no constructor has: no constructor's is as large.
+const UNDECLARED: u32 = 256;
+
+// The modes of a parameter.
+const NUMBER: u32 = 0;
+
+const LENT: u32 = 1;
+
+const OWNED: u32 = 2;
 
 // A byte of the file, 0 past its end.
 fn byte_at(file: &[u8], at: usize) -> u32
@@ -48,13 +61,13 @@ fn code_of(file: &[u8], kind: u32) -> u32
     b0 + 2 * (b1 + 2 * (b2 + 2 * b3))
 }
 
-// The code of each constructor, and 256 for each number that no constructor has.
-fn codes_of(file: &[u8], decl: &[u32; 128]) -> [u32; 64]
+// The code of each constructor, by its number.
+fn codes_of(file: &[u8], decl: &[u32; 128]) -> [u32; CONSTRUCTORS]
     ensures { λ r. ⌜ ((tree : File) → Declared tree (now (file .entry)) (now (decl .entry)) → Coded tree r) ⌝ }
 {
-    let mut codes = [256u32; 64];
+    let mut codes = [UNDECLARED; CONSTRUCTORS];
     let mut i: usize = 0;
-    while i < 64 {
+    while i < CONSTRUCTORS {
         let kind = decl[i];
         if kind % 256 == 255 {
             return codes;
@@ -70,7 +83,7 @@ fn number_fine(bits: u32, w: u32) -> bool
     ensures { λ r. ⌜ r ≡ numberFine bits w ⌝ }
 {
     if bits % 2 == 1 {
-        return w < 65536;
+        return w < Store::NUMBERS;
     }
     true
 }
@@ -94,37 +107,37 @@ fn numbers_in(store: &[u32], at: usize, bits: u32) -> bool
 }
 
 // A cell in the store, of a constructor of arity 1 or more, whose number fields are numbers.
-fn cell_fine(codes: &[u32; 64], store: &[u32], c: usize) -> bool
+fn cell_fine(codes: &[u32; CONSTRUCTORS], store: &[u32], c: usize) -> bool
     requires { ⌜ c < 4294967296 ⌝ }
     ensures { λ r. ⌜ r ≡ cellFine (now (codes .entry)) (now (store .entry)) c ⌝ }
 {
-    let base = 5 * c;
-    if store.len() < base + 5 {
+    let base = Store::CELL * c;
+    if store.len() < base + Store::CELL {
         return false;
     }
     let con = store[base] as usize;
-    if 64 <= con {
+    if CONSTRUCTORS <= con {
         return false;
     }
     let code = codes[con];
     if code == 0 {
         return false;
     }
-    if 256 <= code {
+    if UNDECLARED <= code {
         return false;
     }
     numbers_in(store, base + 1, code / 16)
 }
 
 // A tree word that is not malformed.
-fn word_fine(codes: &[u32; 64], store: &[u32], w: u32) -> bool
+fn word_fine(codes: &[u32; CONSTRUCTORS], store: &[u32], w: u32) -> bool
     ensures { λ r. ⌜ r ≡ wordFine (now (codes .entry)) (now (store .entry)) w ⌝ }
 {
-    if 65536 <= w {
-        return cell_fine(codes, store, (w - 65536) as usize);
+    if Store::FIRST <= w {
+        return cell_fine(codes, store, (w - Store::FIRST) as usize);
     }
     let con = w as usize;
-    if 64 <= con {
+    if CONSTRUCTORS <= con {
         return false;
     }
     codes[con] == 0
@@ -138,10 +151,10 @@ fn bump_to(work: &mut [u32], base: usize, goal: u32, tail: usize, c: usize) -> u
     let n = std::num::wrapping_add_u32(work[base + c], 1);
     work[base + c] = n;
     if n == goal {
-        if 1024 <= tail {
+        if Store::CELLS <= tail {
             return tail;
         }
-        work[base + 1024 + tail] = c as u32;
+        work[base + Work::QUEUE + tail] = c as u32;
         return tail + 1;
     }
     tail
@@ -152,7 +165,7 @@ fn bump_cell(work: &mut [u32], base: usize, tail: usize, c: usize) -> usize
     requires { ⌜ (base ≤ 2048) × (c < 1024) × (tail ≤ 1024) × (4096 ≤ length (now work)) ⌝ }
     ensures { λ r. ⌜ (area (now (work .exit)) r ≡ bump base (area (now (work .entry)) tail) c) × (r ≤ 1024) × (wiped 4096 (now (work .exit)) ≡ wiped 4096 (now (work .entry))) ⌝ }
 {
-    if base == 0 {
+    if base == Work::FIRST_WALK {
         return bump_to(work, base, 1, tail, c);
     }
     let goal = work[c];
@@ -161,7 +174,7 @@ fn bump_cell(work: &mut [u32], base: usize, tail: usize, c: usize) -> usize
 
 // The cell that a word names, if it names one.
 fn name_word(
-    codes: &[u32; 64],
+    codes: &[u32; CONSTRUCTORS],
     store: &[u32],
     work: &mut [u32],
     base: usize,
@@ -175,8 +188,8 @@ fn name_word(
     if !f {
         return BAD;
     }
-    if 65536 <= w {
-        let c = (w - 65536) as usize;
+    if Store::FIRST <= w {
+        let c = (w - Store::FIRST) as usize;
         return bump_cell(work, base, tail, c);
     }
     tail
@@ -184,7 +197,7 @@ fn name_word(
 
 // The cell that a word names, if its bit is set.
 fn name_field(
-    codes: &[u32; 64],
+    codes: &[u32; CONSTRUCTORS],
     store: &[u32],
     work: &mut [u32],
     base: usize,
@@ -203,7 +216,7 @@ fn name_field(
 
 // Of four words from a place on, the cells that those name whose bit is set.
 fn name_fields(
-    codes: &[u32; 64],
+    codes: &[u32; CONSTRUCTORS],
     store: &[u32],
     work: &mut [u32],
     base: usize,
@@ -230,7 +243,7 @@ fn name_fields(
 
 // The cells that a cell names.
 fn expand(
-    codes: &[u32; 64],
+    codes: &[u32; CONSTRUCTORS],
     store: &[u32],
     work: &mut [u32],
     base: usize,
@@ -240,12 +253,12 @@ fn expand(
     requires { ⌜ (base ≤ 2048) × (tail ≤ 1024) × (4096 ≤ length (now work)) × (length (now store) ≤ 5120) × (c < 4294967296) ⌝ }
     ensures { λ r. ⌜ Went (now (work .entry)) (now (work .exit)) r (insideFine (now (codes .entry)) (now (store .entry)) c) (expandAt (now (codes .entry)) (now (store .entry)) base (area (now (work .entry)) tail) c) ⌝ }
 {
-    let at = 5 * c;
-    if store.len() < at + 5 {
+    let at = Store::CELL * c;
+    if store.len() < at + Store::CELL {
         return tail;
     }
     let con = store[at] as usize;
-    if 64 <= con {
+    if CONSTRUCTORS <= con {
         return tail;
     }
     let code = codes[con];
@@ -254,7 +267,7 @@ fn expand(
 
 // Cells are expanded in the order in which they were queued.
 fn drain_queue(
-    codes: &[u32; 64],
+    codes: &[u32; CONSTRUCTORS],
     store: &[u32],
     work: &mut [u32],
     base: usize,
@@ -266,12 +279,12 @@ fn drain_queue(
 {
     let mut t = tail;
     let mut n: usize = 0;
-    while n < 1024 {
+    while n < Store::CELLS {
         let h = head + n;
         if t <= h {
             return t;
         }
-        let c = work[base + 1024 + h] as usize;
+        let c = work[base + Work::QUEUE + h] as usize;
         t = expand(codes, store, work, base, t, c);
         if t == BAD {
             return BAD;
@@ -302,7 +315,7 @@ fn mode_of(file: &[u8], decl: &[u32; 128], i: usize) -> u32
 fn name_arg(
     file: &[u8],
     decl: &[u32; 128],
-    codes: &[u32; 64],
+    codes: &[u32; CONSTRUCTORS],
     store: &[u32],
     args: &[u32],
     work: &mut [u32],
@@ -325,7 +338,7 @@ fn name_arg(
 fn name_args(
     file: &[u8],
     decl: &[u32; 128],
-    codes: &[u32; 64],
+    codes: &[u32; CONSTRUCTORS],
     store: &[u32],
     args: &[u32],
     work: &mut [u32],
@@ -360,13 +373,22 @@ pub(crate) fn clear(work: &mut [u32], base: usize, n: usize)
     }
 }
 
-// The first 4,096 words are zero, and the rest is untouched.
+// No naming of a cell of the store is counted.
+fn clear_counts(store: &[u32], work: &mut [u32], base: usize)
+    requires { ⌜ (base ≤ 2048) × (length (now store) ≤ 5120) × (4096 ≤ length (now work)) ⌝ }
+    ensures { λ _. ⌜ now (work .exit) ≡ cleared base (length (now (store .entry)) / 5) (now (work .entry)) ⌝ }
+{
+    let lent = Store::of(store.len());
+    clear(work, base, lent.cells);
+}
+
+// Every word of the layout is zero, and the rest is untouched.
 pub(crate) fn wipe(work: &mut [u32])
     requires { ⌜ 4096 ≤ length (now work) ⌝ }
     ensures { λ _. ⌜ now (work .exit) ≡ wiped 4096 (now (work .entry)) ⌝ }
 {
     let mut i: usize = 0;
-    while i < 4096 {
+    while i < Work::WORDS {
         work[i] = 0;
         i += 1;
     }
@@ -376,8 +398,8 @@ pub(crate) fn wipe(work: &mut [u32])
 fn number_arg(mode: u32, w: u32) -> bool
     ensures { λ r. ⌜ r ≡ numberArg mode w ⌝ }
 {
-    if mode == 0 {
-        return w < 65536;
+    if mode == NUMBER {
+        return w < Store::NUMBERS;
     }
     true
 }
@@ -406,8 +428,8 @@ fn used_once(work: &[u32], from: usize, tail: usize) -> bool
 {
     let mut i: usize = from;
     while i < tail {
-        let c = work[1024 + i] as usize;
-        if 1024 <= c {
+        let c = work[Work::QUEUE + i] as usize;
+        if Store::CELLS <= c {
             return false;
         }
         if 1 < work[c] {
@@ -422,7 +444,7 @@ fn used_once(work: &[u32], from: usize, tail: usize) -> bool
 fn walk_owned(
     file: &[u8],
     decl: &[u32; 128],
-    codes: &[u32; 64],
+    codes: &[u32; CONSTRUCTORS],
     store: &[u32],
     args: &[u32],
     work: &mut [u32],
@@ -430,19 +452,29 @@ fn walk_owned(
     requires { ⌜ (4096 ≤ length (now work)) × (length (now store) ≤ 5120) × (length (now args) ≤ 255) ⌝ }
     ensures { λ r. ⌜ Went (now (work .entry)) (now (work .exit)) r (ownedFine (now (file .entry)) (now (decl .entry)) (now (codes .entry)) (now (store .entry)) (now (args .entry)) (now (work .entry))) (ownedArea (now (file .entry)) (now (decl .entry)) (now (codes .entry)) (now (store .entry)) (now (args .entry)) (now (work .entry))) ⌝ }
 {
-    clear(work, 0, store.len() / 5);
-    let t = name_args(file, decl, codes, store, args, work, 0, 0, 2);
+    clear_counts(store, work, Work::FIRST_WALK);
+    let t = name_args(
+        file,
+        decl,
+        codes,
+        store,
+        args,
+        work,
+        Work::FIRST_WALK,
+        0,
+        OWNED,
+    );
     if t == BAD {
         return BAD;
     }
-    drain_queue(codes, store, work, 0, 0, t)
+    drain_queue(codes, store, work, Work::FIRST_WALK, 0, t)
 }
 
 // The further cells that lent arguments reach are queued behind those.
 fn walk_lent(
     file: &[u8],
     decl: &[u32; 128],
-    codes: &[u32; 64],
+    codes: &[u32; CONSTRUCTORS],
     store: &[u32],
     args: &[u32],
     work: &mut [u32],
@@ -451,18 +483,28 @@ fn walk_lent(
     requires { ⌜ (4096 ≤ length (now work)) × (length (now store) ≤ 5120) × (length (now args) ≤ 255) × (tail ≤ 1024) ⌝ }
     ensures { λ r. ⌜ Went (now (work .entry)) (now (work .exit)) r (allFine (now (file .entry)) (now (decl .entry)) (now (codes .entry)) (now (store .entry)) (now (args .entry)) (area (now (work .entry)) tail)) (allArea (now (file .entry)) (now (decl .entry)) (now (codes .entry)) (now (store .entry)) (now (args .entry)) (area (now (work .entry)) tail)) ⌝ }
 {
-    let t = name_args(file, decl, codes, store, args, work, 0, tail, 1);
+    let t = name_args(
+        file,
+        decl,
+        codes,
+        store,
+        args,
+        work,
+        Work::FIRST_WALK,
+        tail,
+        LENT,
+    );
     if t == BAD {
         return BAD;
     }
-    drain_queue(codes, store, work, 0, tail, t)
+    drain_queue(codes, store, work, Work::FIRST_WALK, tail, t)
 }
 
 // The cells that no cycle holds back: each is queued at its last naming.
 fn walk_free(
     file: &[u8],
     decl: &[u32; 128],
-    codes: &[u32; 64],
+    codes: &[u32; CONSTRUCTORS],
     store: &[u32],
     args: &[u32],
     work: &mut [u32],
@@ -470,16 +512,36 @@ fn walk_free(
     requires { ⌜ (4096 ≤ length (now work)) × (length (now store) ≤ 5120) × (length (now args) ≤ 255) ⌝ }
     ensures { λ r. ⌜ Went (now (work .entry)) (now (work .exit)) r (freeFine (now (file .entry)) (now (decl .entry)) (now (codes .entry)) (now (store .entry)) (now (args .entry)) (now (work .entry))) (freeArea (now (file .entry)) (now (decl .entry)) (now (codes .entry)) (now (store .entry)) (now (args .entry)) (now (work .entry))) ⌝ }
 {
-    clear(work, 2048, store.len() / 5);
-    let t = name_args(file, decl, codes, store, args, work, 2048, 0, 2);
+    clear_counts(store, work, Work::SECOND_WALK);
+    let t = name_args(
+        file,
+        decl,
+        codes,
+        store,
+        args,
+        work,
+        Work::SECOND_WALK,
+        0,
+        OWNED,
+    );
     if t == BAD {
         return BAD;
     }
-    let u = name_args(file, decl, codes, store, args, work, 2048, t, 1);
+    let u = name_args(
+        file,
+        decl,
+        codes,
+        store,
+        args,
+        work,
+        Work::SECOND_WALK,
+        t,
+        LENT,
+    );
     if u == BAD {
         return BAD;
     }
-    drain_queue(codes, store, work, 2048, 0, u)
+    drain_queue(codes, store, work, Work::SECOND_WALK, 0, u)
 }
 
 // Answers 22, 23 and 24, or 0; only the first 4,096 words of the work area are changed.

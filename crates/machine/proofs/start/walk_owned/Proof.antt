@@ -11,8 +11,8 @@ use Rattle.machine.specs.StartArea.{area, argsAt}
 use Rattle.machine.proofs.start.Cleared.{wiped-cleared}
 use Rattle.machine.proofs.start.Goes.{went-bad, went-after, owned-stops, owned-goes}
 
-clear-requires : tie.Need-clear-requires
-clear-requires c κs = search needs
+clear-counts-requires : tie.Need-clear-counts-requires
+clear-counts-requires c κs = search needs
 
 name-args-requires : tie.Need-name-args-requires
 name-args-requires c κs = search needs
@@ -21,24 +21,27 @@ same-length : tie.Need-same-length
 same-length c = search needs
 
 returns : tie.Need-returns
-returns c = went-bad _ _ _ _ (c .before .before .before .name-args .ensures .same ∙ ap (wiped 4096) (c .before .before .before .before .before .before .before .clear .ensures) ∙ wiped-cleared 0 (length (c .before .before .before .before .before .before .before .before .before .before .before .before .before .args .store .now) / 5) (c .before .before .before .before .before .before .before .before .before .before .before .before .before .args .work .now) (omega arith)) (owned-stops (c .before .before .before .before .before .before .before .before .before .before .before .before .before .args .file .now) (c .before .before .before .before .before .before .before .before .before .before .before .before .before .args .decl .now) (c .before .before .before .before .before .before .before .before .before .before .before .before .before .args .codes .now) (c .before .before .before .before .before .before .before .before .before .before .before .before .before .args .store .now) (c .before .before .before .before .before .before .before .before .before .before .before .before .before .args .args .now) (c .before .before .before .before .before .before .before .before .before .before .before .before .before .args .work .now) (c .before .before .before .name-args .ensures .out (c .if1 .taken)))
+returns c =
+    let g = c .before .before .before .before .before .before .before .before .before .before .before .before .before .args in
+    went-bad _ _ _ _ (c .before .before .before .name-args .ensures .same ∙ ap (wiped 4096) (c .before .before .before .before .before .before .before .clear-counts .ensures) ∙ wiped-cleared 0 (length (g .store .now) / 5) (g .work .now) (omega arith)) (owned-stops (g .file .now) (g .decl .now) (g .codes .now) (g .store .now) (g .args .now) (g .work .now) (c .before .before .before .name-args .ensures .out (c .if1 .taken)))
 
 drain-queue-requires : tie.Need-drain-queue-requires
-drain-queue-requires c κs = omega (arith, c .before .before .before .before .name-args .ensures .on (c .before .if1 .left) .2, c .before .before .before .before .name-args .kept .1 .1 .1 .1 .1 .0, c .before .before .before .before .before .before .before .before .clear .kept .0)
+drain-queue-requires c κs = omega (arith, c .before .before .before .before .name-args .ensures .on (c .before .if1 .left) .2, c .before .before .before .before .name-args .kept .1 .1 .1 .1 .1 .0, c .before .before .before .before .before .before .before .before .clear-counts .kept .1 .0)
 
 same-length-2 : tie.Need-same-length-2
 same-length-2 c = search needs
 
 returns-2 : tie.Need-returns-2
 returns-2 c =
-    let x = owned-goes (c .before .before .before .before .before .before .before .before .before .before .before .before .before .before .before .before .before .args .file .now) (c .before .before .before .before .before .before .before .before .before .before .before .before .before .before .before .before .before .args .decl .now) (c .before .before .before .before .before .before .before .before .before .before .before .before .before .before .before .before .before .args .codes .now) (c .before .before .before .before .before .before .before .before .before .before .before .before .before .before .before .before .before .args .store .now) (c .before .before .before .before .before .before .before .before .before .before .before .before .before .before .before .before .before .args .args .now) (c .before .before .before .before .before .before .before .before .before .before .before .before .before .before .before .before .before .args .work .now) _ (c .before .before .before .before .before .before .before .name-args .ensures .on (c .before .before .before .before .if1 .left) .0) (c .before .before .before .before .before .before .before .name-args .ensures .on (c .before .before .before .before .if1 .left) .1 ∙ ap (λ w. argsAt (c .before .before .before .before .before .before .before .before .before .before .before .before .before .before .before .before .before .args .file .now) (c .before .before .before .before .before .before .before .before .before .before .before .before .before .before .before .before .before .args .decl .now) (c .before .before .before .before .before .before .before .before .before .before .before .before .before .before .before .before .before .args .codes .now) (c .before .before .before .before .before .before .before .before .before .before .before .before .before .before .before .before .before .args .store .now) 0 (c .before .before .before .before .before .before .before .before .before .before .before .before .before .before .before .before .before .args .args .now) 2 (length (c .before .before .before .before .before .before .before .before .before .before .before .before .before .before .before .before .before .args .args .now)) 0 (area w 0)) (c .before .before .before .before .before .before .before .before .before .before .before .clear .ensures)) in
-    went-after _ _ _ _ _ _ _ _ (c .before .before .before .before .before .before .before .name-args .ensures .same ∙ ap (wiped 4096) (c .before .before .before .before .before .before .before .before .before .before .before .clear .ensures) ∙ wiped-cleared 0 (length (c .before .before .before .before .before .before .before .before .before .before .before .before .before .before .before .before .before .args .store .now) / 5) (c .before .before .before .before .before .before .before .before .before .before .before .before .before .before .before .before .before .args .work .now) (omega arith)) (x .0) (x .1) (c .before .before .drain-queue .ensures)
+    let g = c .before .before .before .before .before .before .before .before .before .before .before .before .before .before .before .before .before .args in
+    let x = owned-goes (g .file .now) (g .decl .now) (g .codes .now) (g .store .now) (g .args .now) (g .work .now) _ (c .before .before .before .before .before .before .before .name-args .ensures .on (c .before .before .before .before .if1 .left) .0) (c .before .before .before .before .before .before .before .name-args .ensures .on (c .before .before .before .before .if1 .left) .1 ∙ ap (λ w. argsAt (g .file .now) (g .decl .now) (g .codes .now) (g .store .now) 0 (g .args .now) 2 (length (g .args .now)) 0 (area w 0)) (c .before .before .before .before .before .before .before .before .before .before .before .clear-counts .ensures)) in
+    went-after _ _ _ _ _ _ _ _ (c .before .before .before .before .before .before .before .name-args .ensures .same ∙ ap (wiped 4096) (c .before .before .before .before .before .before .before .before .before .before .before .clear-counts .ensures) ∙ wiped-cleared 0 (length (g .store .now) / 5) (g .work .now) (omega arith)) (x .0) (x .1) (c .before .before .drain-queue .ensures)
 
 pub walk-owned-spec : {M : Type 1} → statement M
 walk-owned-spec =
     tie.close
     (tie.spec
-    clear-requires
+    clear-counts-requires
     name-args-requires
     same-length
     returns

@@ -15,7 +15,7 @@ same-length : tie.Need-same-length
 same-length c = search needs
 
 returns : tie.Need-returns
-returns c = (refl, c .empty .ensures .1, refl, rw (c .before .before .before .load .ensures, words-all))
+returns c = (c .empty .ensures .0, c .empty .ensures .1, refl, rw (c .before .before .before .load .ensures, words-all))
 
 pub fresh-spec : {M : Type 1} → statement M
 fresh-spec = tie.close (tie.spec load-requires empty-requires same-length returns)
