@@ -3,7 +3,6 @@ use Prim.Native.Nat.{ℕ, _<_}
 use mathlib.Core.List.{List}
 use mathlib.Core.Path.{_≡_, refl, sym, ap, _∙_, subst}
 use native.Mathlib.Omega.{arith}
-use lib.ListN.{length}
 use Rattle.meaning.specs.declared.Verdict.{Verdict}
 use Rattle.meaning.specs.declared.Verdict.the-variants as verdict
 use Rattle.meaning.specs.Syntax.{File}
@@ -21,10 +20,9 @@ use Rattle.standing.proofs.Declaring.{read-declared}
 use Rattle.checker.specs.declared.Judged.{Judged}
 use Rattle.checker.specs.declared.reading.Reached.{Reached}
 use Rattle.checker.specs.Bodies.{Finished}
-use Rattle.checker.specs.Noting.{wordsOf, squareOf}
+use Rattle.checker.specs.Square.{squareOf}
 use Rattle.checker.specs.Judging.{refusal, judged, judgedOf}
 use Rattle.checker.proofs.bodies.Filing.{accepted-unread, accepted-read, accepted-fine}
-use Rattle.checker.proofs.calls.Filling.{filled-length}
 use Rattle.checker.proofs.calls.Squares.{words-square}
 
 judged-is : (f : List ℕ) (o : Outcome File) → accepted f ≡ o → judged o ≡ judgedOf f
@@ -64,13 +62,6 @@ module _ (f d c : List ℕ) (r : Reached) (F : Finished f d c r) where
 
   pub refused-told : (r .number ≡ 0 → ⊥) → verdict.Refused (r .number) (r .at) ≡ verdictOf f
   refused-told n = told-refused f (r .number) (r .at) (F .refused n .0)
-
-  pub words-wide : r .number ≡ 0 → length c ≡ 32
-  unfolding wordsOf
-  words-wide z =
-      let w = F .fine z in
-      let D = read-declared f (w .0) (read-of f (w .0) (w .1)) in
-      ap length (w .3) ∙ filled-length 0 (length (w .0 .bodies)) _ (omega (arith, D .many, D .functions))
 
   pub words-told : r .number ≡ 0 → {v : Verdict} → v ≡ told (ok (judge (squareOf c))) → v ≡ verdictOf f
   unfolding shape

@@ -2,7 +2,8 @@ pub mod ReadingBytes
 pub mod Reads
 pub mod Opening
 pub mod Bits
-pub mod Levels
+pub mod Filled
+pub mod Square
 pub mod Noting
 pub mod Slots
 pub mod Ownership

@@ -29,7 +29,7 @@ use Rattle.checker.specs.declared.reading.Read.the-variants.{Next, Fault
 use Rattle.checker.specs.declared.reading.Reached.{Reached}
 use Rattle.checker.specs.ReadingBytes.{path, knownCount, expectAt, endAt}
 use Rattle.checker.specs.Opening.{tableWith, HeaderRead, Bodied, ReadsBody, Ends}
-use Rattle.checker.specs.Levels as levels
+use Rattle.checker.specs.Filled as front
 use Rattle.checker.specs.Noting.{noteCalls, wordsOf}
 use Rattle.checker.specs.Slots.{slotsOf, unbound}
 use Rattle.checker.specs.Ownership.{resultIn, laidOf, boundOf}
@@ -186,7 +186,7 @@ word-of file i = noteCalls (calls (body-of file i) i) 0
 -- behind so many bodies: while no fault is found, what is left to check and the words of the calls; then what refuses the file, if it reads
 pub record Left (f c : List ℕ) (j x q : ℕ) : Type 0 where
   pub left : x ≡ 0 → (file : File) → read f ≡ ok file → check-file file ≡ check-bodies (file .constructors) (file .functions) (drop j (file .functions)) (drop j (file .bodies))
-  pub words : x ≡ 0 → (file : File) → read f ≡ ok file → c ≡ levels.filled 0 j (word-of file)
+  pub words : x ≡ 0 → (file : File) → read f ≡ ok file → c ≡ front.filled 0 j (word-of file)
   pub found : (x ≡ 0 → ⊥) → (file : File) → read f ≡ ok file → check-file file ≡ refuse x q
 
 pub all-left : (f c : List ℕ) → c ≡ replicate 32 0 → Left f c 0 0 0
@@ -237,7 +237,7 @@ module _ (f d : List ℕ) (count j at : ℕ) (C : Bodied f d count j at) (h : j 
       let y = spanned-next (read-declared f file e .ends j) n (this-check file) (J .judged (here-ready file e)) in
       next-body l z file e ∙ rw (y .0, add-one j)
 
-  body-words : {c : List ℕ} {x q w : ℕ} → Left f c j x q → x ≡ 0 → NotedBody f d at j 0 w → (file : File) → read f ≡ ok file → set c j w ≡ levels.filled 0 (j + 1) (word-of file)
+  body-words : {c : List ℕ} {x q w : ℕ} → Left f c j x q → x ≡ 0 → NotedBody f d at j 0 w → (file : File) → read f ≡ ok file → set c j w ≡ front.filled 0 (j + 1) (word-of file)
   unfolding here-ready
   body-words {w = w} l z N file e =
       ap (λ k. set k j w) (l .words z file e)
@@ -285,7 +285,7 @@ all-noted : {c : List ℕ} {x q : ℕ} (f : List ℕ) (j : ℕ) → Left f c j x
 unfolding wordsOf
 all-noted f j l z file e h =
     let b : j ≡ length (file .bodies) = omega (arith, h, read-declared f file e .many) in
-    l .words z file e ∙ ap (λ n. levels.filled 0 n (word-of file)) b
+    l .words z file e ∙ ap (λ n. front.filled 0 n (word-of file)) b
 
 -- ---- the whole file
 pub accepted-unread : (f : List ℕ) (n p : ℕ) → read f ≡ refuse n p → accepted f ≡ refuse n p

@@ -18,11 +18,11 @@ use Rattle.meaning.specs.Calls.{calls, calls-branches, stronger}
 use Rattle.standing.specs.Stands.{Stands, Each}
 use Rattle.standing.specs.Stands as T
 use Rattle.standing.specs.Table.{Declared}
-use Rattle.theory.proofs.Bools.{upto-at}
 use Rattle.checker.specs.Bits.{bitsOf}
-use Rattle.checker.specs.Noting.{noteCall, noteCalls, waitsIn, tailsIn, rowOf}
+use Rattle.checker.specs.Square.{wayOf, rowOf}
+use Rattle.checker.specs.Noting.{noteCall, noteCalls}
 use Rattle.checker.proofs.sets.Digits.{or-bit, bits-length}
-use Rattle.checker.proofs.calls.Halves.{by-entries}
+use Rattle.checker.proofs.calls.Filling.{by-entries}
 
 -- calls noted in a row
 abbrev pub noted-in : List How → (callee : ℕ) → How → List How
@@ -46,13 +46,9 @@ few-append : {a b : List Call} → Few a → Few b → Few (a ++ b)
 few-append none q = q
 few-append (more l p) q = more l (few-append p q)
 
--- what a word says of a function
-abbrev told : ℕ → ℕ → How
-told w g = pick (getD (bitsOf 64 w) g false) Waits (pick (getD (bitsOf 64 w) (32 + g) false) Tail Never)
-
 record Same (w : ℕ) (row : List How) : Type 0 where
   size : length row ≡ 32
-  tells : (g : ℕ) → g < 32 → getD row g Never ≡ told w g
+  tells : (g : ℕ) → g < 32 → getD row g Never ≡ wayOf w g
 
 weakest : (h : How) → stronger h Never ≡ h
 weakest Never = refl
@@ -79,24 +75,25 @@ digit-kept w i j l n = ap (λ b. getD b j false) (or-bit 64 w i l) ∙ getD-set-
 
 module _ {w : ℕ} {row : List How} (s : Same w row) (c : ℕ) (l : c < 32) where
   -- an entry of a row in which one call more is noted
-  entry-here : (h : How) → getD (noted-in row c h) c Never ≡ stronger (told w c) h
+  entry-here : (h : How) → getD (noted-in row c h) c Never ≡ stronger (wayOf w c) h
   entry-here h = getD-set-same row c (stronger (getD row c Never) h) Never (omega (arith, s .size)) ∙ ap (λ x. stronger x h) (s .tells c l)
 
-  entry-other : (h : How) (g : ℕ) → g < 32 → (g ≡ c → ⊥) → getD (noted-in row c h) g Never ≡ told w g
+  entry-other : (h : How) (g : ℕ) → g < 32 → (g ≡ c → ⊥) → getD (noted-in row c h) g Never ≡ wayOf w g
   entry-other h g k n = getD-set-other row c g (stronger (getD row c Never) h) Never n ∙ s .tells g k
 
   same-waits : Same (bitOr w (2 ^ c)) (noted-in row c Waits)
-  unfolding pick
+  unfolding wayOf pick
   same-waits = record { size = length-set row c (stronger (getD row c Never) Waits) ∙ s .size; tells = λ g k. at g k (ℕ-discrete g c) }
     where
-      at : (g : ℕ) → g < 32 → Dec (g ≡ c) → getD (noted-in row c Waits) g Never ≡ told (bitOr w (2 ^ c)) g
-      at g k (yes e) = rw e (entry-here Waits ∙ strongest (told w c) ∙ sym (rw (digit-set w c (omega arith))))
+      at : (g : ℕ) → g < 32 → Dec (g ≡ c) → getD (noted-in row c Waits) g Never ≡ wayOf (bitOr w (2 ^ c)) g
+      at g k (yes e) = rw e (entry-here Waits ∙ strongest (wayOf w c) ∙ sym (rw (digit-set w c (omega arith))))
       at g k (no n) = entry-other Waits g k n ∙ sym (rw (digit-kept w c g (omega arith) n, digit-kept w c (32 + g) (omega arith) (λ q. omega arith)))
 
   same-tail : Same (bitOr w (2 ^ (32 + c))) (noted-in row c Tail)
+  unfolding wayOf pick
   same-tail = record { size = length-set row c (stronger (getD row c Never) Tail) ∙ s .size; tells = λ g k. at g k (ℕ-discrete g c) }
     where
-      at : (g : ℕ) → g < 32 → Dec (g ≡ c) → getD (noted-in row c Tail) g Never ≡ told (bitOr w (2 ^ (32 + c))) g
+      at : (g : ℕ) → g < 32 → Dec (g ≡ c) → getD (noted-in row c Tail) g Never ≡ wayOf (bitOr w (2 ^ (32 + c))) g
       at g k (yes e) =
           rw e (entry-here Tail ∙ over-tail (getD (bitsOf 64 w) c false) (getD (bitsOf 64 w) (32 + c) false)
           ∙ sym (rw (digit-set w (32 + c) (omega arith), digit-kept w (32 + c) c (omega arith) (λ q. omega arith))))
@@ -120,14 +117,13 @@ no-digit (suc d) zero = refl
 no-digit (suc d) (suc j) = no-digit d j
 
 same-none : Same 0 (replicate 32 Never)
-unfolding pick
+unfolding wayOf pick
 same-none = record { size = refl; tells = λ g l. getD-replicate 32 g Never Never l ∙ sym (rw (no-digit 64 g, no-digit 64 (32 + g))) }
 
 -- the row of a word
-same-row : {w : ℕ} {row : List How} → Same w row → rowOf (waitsIn w) (tailsIn w) ≡ row
-unfolding rowOf waitsIn tailsIn
-same-row {w} {row} s = sym (by-entries Never row (λ g. pick (getD (waitsIn w) g false) Waits (pick (getD (tailsIn w) g false) Tail Never)) (s .size)
-    (λ g l. s .tells g l ∙ sym (rw (upto-at 32 (λ i. getD (bitsOf 64 w) i false) g false l, upto-at 32 (λ i. getD (bitsOf 64 w) (32 + i) false) g false l))))
+same-row : {w : ℕ} {row : List How} → Same w row → rowOf w ≡ row
+unfolding rowOf
+same-row {w} {row} s = sym (by-entries Never row (wayOf w) (s .size) (s .tells))
 
 module _ (file : File) (bytes table : List ℕ) (declared : Declared file bytes table) where
   known : {g : ℕ} → g < length (file .functions) → g < 32
@@ -153,5 +149,5 @@ module _ (file : File) (bytes table : List ℕ) (declared : Declared file bytes 
     few-all (T.BR a m l b n k e s r) f = few-append (few s f) (few-all r f)
 
   pub row-of-body : (f : ℕ) → f < length (file .functions)
-      → rowOf (waitsIn (noteCalls (calls (body-of file f) f) 0)) (tailsIn (noteCalls (calls (body-of file f) f) 0)) ≡ fill-row (calls (body-of file f) f) (replicate 32 Never)
+      → rowOf (noteCalls (calls (body-of file f) f) 0) ≡ fill-row (calls (body-of file f) f) (replicate 32 Never)
   row-of-body f l = same-row (same-calls (few (declared .stands f l) f) same-none)

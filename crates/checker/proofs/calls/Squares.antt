@@ -18,12 +18,11 @@ use Rattle.meaning.specs.Machine.{body-of}
 use Rattle.meaning.specs.Calls.{calls, calls-branches, calls-from, call, Square, noted, fill, no-calls, square}
 use Rattle.standing.specs.Table.{tableOf, Declared}
 use Rattle.standing.proofs.Declaring.{read-declared}
-use Rattle.checker.specs.Levels.{filled}
-use Rattle.checker.specs.Noting.{noteCalls, waitsIn, tailsIn, rowOf, wordsOf, squareOf}
-use Rattle.checker.proofs.calls.Halves.{by-entries}
-use Rattle.checker.proofs.calls.Filling.{fill-start, fill-in, filled-length, filled-at, filled-past}
+use Rattle.checker.specs.Filled.{filled}
+use Rattle.checker.specs.Square.{rowOf, squareOf}
+use Rattle.checker.specs.Noting.{noteCalls, wordsOf}
+use Rattle.checker.proofs.calls.Filling.{fill-start, fill-in, by-entries, filled-length, filled-at, filled-past, row-none}
 use Rattle.checker.proofs.calls.Rows.{noted-in, fill-row, fill-row-append, row-of-body}
-use Rattle.checker.proofs.calls.Squaring.{row-at, row-none}
 
 fill-append : (a b : List Call) (sq : Square) → fill (a ++ b) sq ≡ fill b (fill a sq)
 unfolding fill
@@ -116,20 +115,20 @@ module _ (file : File) where
   square-rows small = ap (λ ts. fill (calls-from 0 ts) no-calls) (sym (take-length (file .bodies))) ∙ squares small n (omega arith)
 
   -- a row by its word
-  row-by-word : (bytes table : List ℕ) → Declared file bytes table → (f : ℕ) → f < 32 → getD (filled no-row n rows) f [] ≡ row-at (wordsOf file) f
+  row-by-word : (bytes table : List ℕ) → Declared file bytes table → (f : ℕ) → f < 32 → getD (filled no-row n rows) f [] ≡ rowOf (getD (wordsOf file) f 0)
   unfolding wordsOf
   row-by-word bytes table declared f l = go (decLt f n)
     where
       word : ℕ → ℕ
       word g = noteCalls (calls (body-of file g) g) 0
 
-      go : Dec (f < n) → getD (filled no-row n rows) f [] ≡ row-at (filled 0 n word) f
-      go (yes k) = filled-at no-row n rows f [] k ∙ sym (ap (λ w. rowOf (waitsIn w) (tailsIn w)) (filled-at 0 n word f 0 k) ∙ row-of-body file bytes table declared f (omega (arith, declared .many)))
-      go (no k) = filled-past no-row n rows f [] (omega arith) l ∙ sym (ap (λ w. rowOf (waitsIn w) (tailsIn w)) (filled-past 0 n word f 0 (omega arith) l) ∙ row-none)
+      go : Dec (f < n) → getD (filled no-row n rows) f [] ≡ rowOf (getD (filled 0 n word) f 0)
+      go (yes k) = filled-at no-row n rows f [] k ∙ sym (ap rowOf (filled-at 0 n word f 0 k) ∙ row-of-body file bytes table declared f (omega (arith, declared .many)))
+      go (no k) = filled-past no-row n rows f [] (omega arith) l ∙ sym (ap rowOf (filled-past 0 n word f 0 (omega arith) l) ∙ row-none)
 
 pub words-square : (f : List ℕ) (file : File) → read f ≡ ok file → squareOf (wordsOf file) ≡ square file
 unfolding squareOf
 words-square f file e =
     let declared = read-declared f file e in
     let small : length (file .bodies) ≤ 32 = omega (arith, declared .functions, declared .many) in
-    sym (square-rows file small ∙ by-entries [] (filled (replicate 32 Never) (length (file .bodies)) (rows file)) (row-at (wordsOf file)) (filled-length (replicate 32 Never) (length (file .bodies)) (rows file) small) (row-by-word file f (tableOf file) declared))
+    sym (square-rows file small ∙ by-entries [] (filled (replicate 32 Never) (length (file .bodies)) (rows file)) (λ f. rowOf (getD (wordsOf file) f 0)) (filled-length (replicate 32 Never) (length (file .bodies)) (rows file) small) (row-by-word file f (tableOf file) declared))

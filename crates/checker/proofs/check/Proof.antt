@@ -3,7 +3,7 @@ use borrow.Author.Needs.{needs}
 use Rattle.checker.proofs.check.Statement.{statement}
 use Rattle.checker.proofs.check.Tie as tie
 use native.Mathlib.Omega.{arith}
-use Rattle.checker.proofs.Joining.{place-low, refused-told, words-wide, words-told}
+use Rattle.checker.proofs.Joining.{place-low, refused-told, words-told}
 
 check-file-requires : tie.Need-check-file-requires
 check-file-requires c κs = search needs
@@ -15,7 +15,7 @@ returns : tie.Need-returns
 returns c = refused-told _ _ _ _ (c .before .before .before .check-file .ensures) (c .before .if1 .taken)
 
 shape-of-requires : tie.Need-shape-of-requires
-shape-of-requires c κs = words-wide _ _ _ _ (c .before .before .before .check-file .ensures) (c .before .if1 .left)
+shape-of-requires c κs = search needs
 
 returns-2 : tie.Need-returns-2
 returns-2 c = words-told _ _ _ _ (c .before .before .before .before .check-file .ensures) (c .before .before .if1 .left) (c .shape-of .ensures)

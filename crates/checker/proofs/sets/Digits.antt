@@ -1,6 +1,6 @@
 -- The machine's operations on a number, on the list of its digits: the set that they stand for. Assumes nothing.
 use Prim.Native.Nat.{ℕ, zero, suc, _+_, _-_, _*_, _/_, _%_, _^_, _<_, max, min}
-use mathlib.Core.Path.{_≡_, refl, sym, ap, _∙_, subst}
+use mathlib.Core.Path.{_≡_, refl, sym, ap, _∙_}
 use mathlib.Core.Logic.{_⊎_, inl, inr}
 use mathlib.Core.List.{List, [], _∷_}
 use mathlib.Core.Bool.{Bool, true, false}
@@ -12,9 +12,7 @@ use lib.Pow.{shr-shr}
 use lib.Bits.{bitOr, bitAnd, bitXor, or-step, and-step, xor-step, or-zero-r, and-self, and-le-r}
 use lib.Bits as bits
 use lib.Count.{trailingZeros, ones, ones-step, ones-ones}
-use Rattle.theory.proofs.Bools.{first-in}
 use Rattle.checker.specs.Bits.{bitsOf}
-use Rattle.checker.specs.Levels.{Some, Empty}
 use Rattle.meaning.specs.Sets.{first, how-many, zip, or, differ}
 
 -- a digit is 0 or 1
@@ -157,17 +155,6 @@ some-step d x h ih (inr e) = rw e (omega arith)
 pub some-bit : (d x : ℕ) → x < 2 ^ d → 0 < x → first (bitsOf d x) < d
 some-bit zero x l h = absurd (omega arith)
 some-bit (suc d) x l h = some-step d x h (λ k. some-bit d (x / 2) (omega (arith, pow-suc 2 d)) k) (digit x)
-
-pub some-member : (x : ℕ) → x < 2 ^ 32 → (x ≡ 0 → ⊥) → Some (bitsOf 32 x)
-some-member x l n = let h : first (bitsOf 32 x) < 32 = some-bit 32 x l (omega (arith, n)) in (first (bitsOf 32 x), first-in (bitsOf 32 x) (omega (arith, bits-length 32 x)))
-
-pub no-member : Empty (bitsOf 32 0)
-no-member i = subst (λ l. getD l i false ≡ false) (sym (bits-none 32)) (go 32 i)
-  where
-    go : (n j : ℕ) → getD (replicate n false) j false ≡ false
-    go zero j = refl
-    go (suc n) zero = refl
-    go (suc n) (suc j) = go n j
 
 -- a set with a first member is not 0
 pub some : (x : ℕ) → first (bitsOf 32 x) < 32 → 0 < x

@@ -1,63 +1,87 @@
 -- `calls::settle` meets its contract. Assumes nothing.
+use borrow.Author.Needs.{needs}
 use Rattle.checker.proofs.calls.settle.Statement.{statement}
 use Rattle.checker.proofs.calls.settle.Tie as tie
-use borrow.Author.Needs.{needs}
-use Prim.Native.Nat.{ℕ, _-_, _≤_, _<_, _^_}
-use mathlib.Core.Path.{_≡_, sym, ap, _∙_, subst}
+use Prim.Native.Nat.{ℕ, _+_, _-_, _≤_}
+use mathlib.Core.Path.{_≡_, refl, sym, ap, ap₂, _∙_}
+use mathlib.Core.Bool.{Bool, false}
+use mathlib.Core.List.{List}
 use native.Mathlib.Omega.{arith}
 use native.Mathlib.Numerals.{add-one}
+use lib.ListN.{getD}
+use Rattle.meaning.specs.declared.Verdict.the-variants as verdict
+use Rattle.meaning.specs.Calls.{Square, relax, rounds, same}
 use Rattle.checker.specs.Bits.{bitsOf}
-use Rattle.checker.specs.Levels.{member, Some, Empty, ends, goes-on}
-use Rattle.checker.specs.Levels as depths
-use Rattle.checker.proofs.sets.Digits.{some-member, no-member}
-use Rattle.checker.proofs.calls.Filling.{below-next}
+use Rattle.checker.proofs.calls.Rounds.{rounds-low, flat-at, stacked-at}
+
+-- what the comparison says of the rounds
+told-by : (sq : Square) (seen : List Bool) (k : ℕ) {table next : List ℕ} {b : Bool} → table ≡ rounds k sq seen → next ≡ relax sq seen table → b ≡ same 32 next table
+    → same 32 (relax sq seen (rounds k sq seen)) (rounds k sq seen) ≡ b
+told-by sq seen k e n t = sym (t ∙ ap₂ (same 32) (n ∙ ap (relax sq seen) e) e)
+
+low : (sq : Square) (seen : List Bool) (k : ℕ) {table : List ℕ} (f : ℕ) → table ≡ rounds k sq seen → getD table f 0 ≤ k
+low sq seen k f e = rw e (rounds-low sq seen k f)
 
 abbrev Inv-loop : tie.InvT-loop
-Inv-loop tails waits reached level₀ depth₀ level depth = (depth ≤ reached) × (bitsOf 32 level ≡ depths.level (member tails) (member waits) depth) × ((n : ℕ) → n < depth → Some (depths.level (member tails) (member waits) n)) × (level < 2 ^ 32)
+Inv-loop square seen reached table₀ k₀ table k =
+    let s = bitsOf 32 seen in
+    (k ≤ reached + 1) × (table ≡ rounds k square s) × ((j : ℕ) → k ≡ j + 1 → same 32 (relax square s (rounds j square s)) (rounds j square s) ≡ false)
 
 abbrev μ-loop : tie.MeasureT-loop
-μ-loop tails waits reached level₀ depth₀ level depth = reached - depth
-
-closure-requires : tie.Need-closure-requires Inv-loop μ-loop
-closure-requires c κs = search needs
+μ-loop square seen reached table₀ k₀ table k = reached + 1 - k
 
 loop-holds : tie.Need-loop-holds Inv-loop μ-loop
-unfolding depths.level
-loop-holds c = (omega arith, c .closure .ensures, λ n l. absurd (omega arith), omega arith)
+unfolding rounds
+loop-holds c = (omega arith, refl, λ j e. absurd (omega arith))
+
+relax-requires : tie.Need-relax-requires Inv-loop μ-loop
+relax-requires c κs =
+    let a = c .before .before .args in
+    let l = c .before .loop in
+    λ f. omega (arith, low (a .square) (bitsOf 32 (a .seen)) (l .k) f (l .inv .1))
+
+same-requires : tie.Need-same-requires Inv-loop μ-loop
+same-requires c κs = search needs
+
+array-read-t12 : tie.Need-array-read-t12 Inv-loop μ-loop
+array-read-t12 c = search needs
+
+cast-t13 : tie.Need-cast-t13 Inv-loop μ-loop
+cast-t13 c = let l = c .before .before .before .before .loop in omega (arith, low _ _ (l .k) 0 (l .inv .1))
+
+add-t14 : tie.Need-add-t14 Inv-loop μ-loop
+add-t14 c = let l = c .before .before .before .before .loop in omega (arith, low _ _ (l .k) 0 (l .inv .1))
 
 returns : tie.Need-returns Inv-loop μ-loop
 returns c =
-    let a = c .before .before .before .before .args in
-    let e : c .before .before .loop .depth ≡ a .reached = omega arith in
-    goes-on (subst (λ n. Some (depths.level (member (a .tails .now)) (member (a .waits .now)) n)) e
-    (subst Some (c .before .before .loop .inv .1) (some-member (c .before .before .loop .level) (c .before .before .loop .inv .3) (c .before .loop-test .taken))))
+    let a = c .before .before .before .before .before .args in
+    let l = c .before .before .before .before .loop in
+    let s = bitsOf 32 (a .seen) in
+    let e = told-by (a .square) s (l .k) (l .inv .1) (c .before .before .relax .ensures) (c .before .same .ensures) ∙ c .if1 .taken in
+    rw (flat-at (a .square) s (l .k) e (a .reached) (c .before .before .before .loop-test .taken)) (ap (λ d. verdict.Flat d (a .reached)) (rw (l .inv .1) (add-one _)))
 
-add-depth : tie.Need-add-depth Inv-loop μ-loop
-add-depth c = search needs
-
-onward-requires : tie.Need-onward-requires Inv-loop μ-loop
-onward-requires c κs = search needs
-
-closure-requires-2 : tie.Need-closure-requires-2 Inv-loop μ-loop
-closure-requires-2 c κs = search needs
+add-k : tie.Need-add-k Inv-loop μ-loop
+add-k c = search needs
 
 loop-less : tie.Need-loop-less Inv-loop μ-loop
 loop-less c = search needs
 
 loop-again : tie.Need-loop-again Inv-loop μ-loop
-unfolding depths.level
+unfolding rounds
 loop-again c =
-    let a = c .before .before .before .before .before .before .args in
-    let l = depths.level (member (a .tails .now)) (member (a .waits .now)) in
-    let d = c .before .before .before .before .loop .depth in (
+    let a = c .before .before .before .before .before .args in
+    let l = c .before .before .before .before .loop in
+    let s = bitsOf 32 (a .seen) in
+    let e = told-by (a .square) s (l .k) (l .inv .1) (c .before .before .relax .ensures) (c .before .same .ensures) ∙ c .if1 .left in (
       omega arith,
-      c .closure2 .ensures ∙ ap (depths.closure (member (a .tails .now))) (c .before .onward .ensures ∙ ap (depths.onward 32 (member (a .waits .now))) (c .before .before .before .before .loop .inv .1)) ∙ ap l (sym (add-one d)),
-      λ n k. below-next d n (c .before .before .before .before .loop .inv .2) (subst Some (c .before .before .before .before .loop .inv .1) (some-member (c .before .before .before .before .loop .level) (c .before .before .before .before .loop .inv .3) (c .before .before .before .loop-test .taken))) k,
-      omega arith,
+      c .before .before .relax .ensures ∙ ap (relax (a .square) s) (l .inv .1) ∙ ap (λ n. rounds n (a .square) s) (sym (add-one (l .k))),
+      λ j d. let q : j ≡ l .k = omega arith in rw q e,
     )
 
 returns-2 : tie.Need-returns-2 Inv-loop μ-loop
-returns-2 c = ends (c .before .loop .depth) (c .before .loop .inv .2) (subst Empty (ap (bitsOf 32) (sym (c .loop-test .left)) ∙ c .before .loop .inv .1) no-member)
+returns-2 c =
+    let a = c .before .before .args in
+    rw (stacked-at (a .square) (bitsOf 32 (a .seen)) (a .reached) (c .before .loop .inv .2 (a .reached) (omega arith)))
 
 pub settle-spec : {M : Type 1} → statement M
 settle-spec =
@@ -65,12 +89,14 @@ settle-spec =
     (tie.spec
     Inv-loop
     μ-loop
-    closure-requires
     loop-holds
+    relax-requires
+    same-requires
+    array-read-t12
+    cast-t13
+    add-t14
     returns
-    add-depth
-    onward-requires
-    closure-requires-2
+    add-k
     loop-less
     loop-again
     returns-2)

@@ -14,7 +14,7 @@ judge-requires : tie.Need-judge-requires
 judge-requires c κs = search needs
 
 returns : tie.Need-returns
-returns c = c .judge .ensures ∙ ap (λ s. told (ok (judge s))) (c .before .before .square-of .ensures .0)
+returns c = c .judge .ensures ∙ ap (λ s. told (ok (judge s))) (c .before .square-of .ensures)
 
 pub shape-of-spec : {M : Type 1} → statement M
 shape-of-spec = tie.close (tie.spec square-of-requires judge-requires returns)

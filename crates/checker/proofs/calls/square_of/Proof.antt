@@ -1,33 +1,39 @@
 -- `calls::square_of` meets its contract. Assumes nothing.
+use borrow.Author.Needs.{needs}
 use Rattle.checker.proofs.calls.square_of.Statement.{statement}
 use Rattle.checker.proofs.calls.square_of.Tie as tie
-use borrow.Author.Needs.{needs}
-use Prim.Native.Nat.{_+_, _-_, _≤_, _<_}
-use mathlib.Core.Path.{_≡_, refl, sym, subst, subst₂}
+use Prim.Native.Nat.{ℕ, _-_, _≤_}
+use mathlib.Core.Path.{_≡_, ap, _∙_}
+use mathlib.Core.List.{List}
 use mathlib.Core.Logic.{⊎-elim}
 use native.Mathlib.Omega.{arith}
-use Rattle.checker.proofs.calls.Squaring.{Made, made-start, made-none, made-next, made-all}
+use lib.ListN.{getD, replicate}
+use Rattle.meaning.specs.declared.How.{How}
+use Rattle.meaning.specs.declared.How.the-variants.{Never}
+use Rattle.checker.specs.Filled.{filled}
+use Rattle.checker.specs.Square.{rowOf, squareOf}
+use Rattle.checker.proofs.calls.Filling.{fill-start, fill-next, fill-out, fill-end, row-none}
+
+abbrev none : List How
+none = replicate 32 Never
+
+abbrev rows : List ℕ → ℕ → List How
+rows words = λ f. rowOf (getD words f 0)
 
 abbrev Inv-loop : tie.InvT-loop
-Inv-loop calls called₀ square₀ f₀ called square f = (f ≤ 32) × Made calls square called f
+Inv-loop calls square₀ f₀ square f = (f ≤ 32) × (square ≡ filled none f (rows calls))
 
 abbrev μ-loop : tie.MeasureT-loop
-μ-loop calls called₀ square₀ f₀ called square f = 32 - f
+μ-loop calls square₀ f₀ square f = 32 - f
 
 loop-holds : tie.Need-loop-holds Inv-loop μ-loop
-loop-holds c = (omega arith, made-start (c .args .calls .now) (c .args .called .now) (c .pre .1))
+loop-holds c = (omega arith, fill-start none (rows (c .args .calls .now)))
 
 mul-noted : tie.Need-mul-noted Inv-loop μ-loop
 mul-noted c = search needs
 
 element-copy-out-noted : tie.Need-element-copy-out-noted Inv-loop μ-loop
 element-copy-out-noted c = search needs
-
-waits-of-requires : tie.Need-waits-of-requires Inv-loop μ-loop
-waits-of-requires c κs = search needs
-
-tails-of-requires : tie.Need-tails-of-requires Inv-loop μ-loop
-tails-of-requires c κs = search needs
 
 row-of-requires : tie.Need-row-of-requires Inv-loop μ-loop
 row-of-requires c κs = search needs
@@ -38,15 +44,6 @@ mul-square c = search needs
 array-set-from-square : tie.Need-array-set-from-square Inv-loop μ-loop
 array-set-from-square c = search needs
 
-either-requires : tie.Need-either-requires Inv-loop μ-loop
-either-requires c κs = search needs
-
-mul-called : tie.Need-mul-called Inv-loop μ-loop
-mul-called c = search needs
-
-element-write-called : tie.Need-element-write-called Inv-loop μ-loop
-element-write-called c = search needs
-
 add-f : tie.Need-add-f Inv-loop μ-loop
 add-f c = search needs
 
@@ -55,19 +52,19 @@ loop-less c = search needs
 
 loop-again : tie.Need-loop-again Inv-loop μ-loop
 loop-again c =
-    let rows = c .before .before .before .loop .inv .1 in
-    let words = c .before .before .before .before .args .calls .now in
-    let f = c .before .before .before .loop .f in
-    let l : f < 32 = omega arith in (
+    let l = c .before .before .before .loop in
+    let h = c .before .before .loop-test .taken in
+    let made = rows (c .before .before .before .before .args .calls .now) in (
       omega arith,
       ⊎-elim
-          (λ w. subst₂ (λ sq sets. Made words sq sets (f + 1)) (sym (w .6)) (sym (w .5)) (made-next rows _ (w .1 .result) (w .2 .result) (w .4 .result) (w .3 .result) l refl (w .1 .ensures) (w .2 .ensures) (w .3 .ensures) (w .4 .ensures)))
-          (λ w. subst₂ (λ sq sets. Made words sq sets (f + 1)) (sym (w .2)) (sym (w .1)) (made-none rows l (w .0 .left)))
+          (λ w. w .2 ∙ fill-next none (l .f) made h (l .inv .1) (w .1 .ensures))
+          (λ w. w .1 ∙ l .inv .1 ∙ fill-out none (l .f) made h (ap rowOf (w .0 .left) ∙ row-none))
           (c .if1 .came),
     )
 
 returns : tie.Need-returns Inv-loop μ-loop
-returns c = let e : c .before .loop .f ≡ 32 = omega arith in made-all (subst (Made (c .before .before .args .calls .now) (c .before .loop .square) (c .before .loop .called)) e (c .before .loop .inv .1))
+unfolding squareOf
+returns c = let l = c .before .loop in fill-end none (l .f) (rows (c .before .before .args .calls .now)) (c .loop-test .left) (l .inv .0) (l .inv .1)
 
 pub square-of-spec : {M : Type 1} → statement M
 square-of-spec =
@@ -78,14 +75,9 @@ square-of-spec =
     loop-holds
     mul-noted
     element-copy-out-noted
-    waits-of-requires
-    tails-of-requires
     row-of-requires
     mul-square
     array-set-from-square
-    either-requires
-    mul-called
-    element-write-called
     add-f
     loop-less
     loop-again
