@@ -1,4 +1,6 @@
 // Runs the cases that stand on standard input, and prints a line for each. A case is a kind (0: a file to check, 1: a request to run), the length of its bytes in three bytes, high byte first, and the bytes.
+#![tactic(auto)]
+
 ghost use Rattle.std.specs.Prelude.{◌≤◌};
 
 use libc::{STDIN_FILENO, STDOUT_FILENO};

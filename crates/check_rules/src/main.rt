@@ -1,4 +1,6 @@
 // The checking program: reads a rule file from standard input, and prints its line.
+#![tactic(auto)]
+
 use libc::{STDIN_FILENO, STDOUT_FILENO};
 
 // The buffer has more than 4,096 bytes, and a file over 4,096 bytes is refused by 1 whatever its bytes are: so what does not fit is not missed.

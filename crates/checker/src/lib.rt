@@ -1,4 +1,6 @@
 // The checker: a file's verdict, and what the machine needs of an accepted file.
+#![tactic(auto)]
+
 mod bodies;
 mod calls;
 mod ownership;
@@ -15,7 +17,7 @@ use crate::calls::shape_of;
 use meaning::Verdict;
 
 // The table of declarations of an accepted file; or the answer that refuses a file, and its place.
-#[derive(Drop)]
+#[derive(Clone, Copy)]
 pub struct Judged {
     pub number: u32,
     pub place: u32,

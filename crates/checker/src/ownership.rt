@@ -11,7 +11,7 @@ use crate::slots::{Want, current, kind_of, left_over, spends, test, want_back, w
 use meaning::{AR, CL, GV, IF, Kind, LK, MK, NU, OP, Slot, TL, find_mark};
 
 // What a record takes: the slots that it spends, as bits; or, where the number is not 0, a fault and its place.
-#[derive(Drop)]
+#[derive(Clone, Copy)]
 pub struct Taken {
     pub number: u32,
     pub place: usize,

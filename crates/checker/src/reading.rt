@@ -10,14 +10,14 @@ use meaning::{
 };
 
 // The slots and the nodes on a path, from the body's start.
-#[derive(Drop)]
+#[derive(Clone, Copy)]
 pub(crate) struct Path {
     pub slots: usize,
     pub nodes: usize,
 }
 
 // What follows a node, and where; of branches also how many, and whether each binds a credit.
-#[derive(Drop)]
+#[derive(Clone, Copy)]
 pub(crate) enum Then {
     Leaf(usize),
     One(usize),
@@ -27,14 +27,14 @@ pub(crate) enum Then {
 }
 
 // A node that was read: what follows it, and the path with it.
-#[derive(Drop)]
+#[derive(Clone, Copy)]
 pub(crate) struct Node {
     pub then: Then,
     pub path: Path,
 }
 
 // Where reading goes on, or the answer that refuses the file and its place.
-#[derive(Drop)]
+#[derive(Clone, Copy)]
 pub(crate) enum Read {
     Next(usize),
     Fault(u32, usize),
@@ -424,7 +424,7 @@ pub(crate) fn read_end(file: &[u8], at: usize) -> Read
 }
 
 // So many records are read and reading stands at a place, with number 0; or number is the answer that refuses the file there.
-#[derive(Drop)]
+#[derive(Clone, Copy)]
 pub(crate) struct Reached {
     pub count: usize,
     pub at: usize,

@@ -9,7 +9,7 @@ use crate::sets::has;
 use meaning::{Kind, Slot};
 
 // What a record asks of a slot: a number, a lent tree to look at, a tree to lend, an owned tree, or a credit of a size.
-#[derive(Drop)]
+#[derive(Clone, Copy)]
 pub(crate) enum Want {
     Number,
     Looked,

@@ -1,4 +1,6 @@
 // Checking and running for programs in other languages, with verdict and answer as words.
+#![tactic(auto)]
+
 ghost use Rattle.std.specs.Prelude.{◌≡◌};
 ghost use Rattle.meaning.specs.Answers.{verdict_of, run_of};
 ghost use Rattle.meaning.specs.Answers as answers;

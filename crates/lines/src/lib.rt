@@ -1,4 +1,6 @@
 // What the programs print, and what the running program reads: bytes in, bytes out.
+#![tactic(auto)]
+
 mod input;
 mod text;
 

@@ -4,7 +4,7 @@ ghost use Rattle.standing.specs.Bytes.{byte_at};
 ghost use Rattle.machine.specs.Layout.{slot_in, top, moved, ended, bound, laid, gathered, words, Rising, Apart};
 
 // The top frame: the place of its term, the frames below it, and its slots that are bound.
-#[derive(Drop)]
+#[derive(Clone, Copy)]
 pub struct Frame {
     pub at: usize,
     pub depth: usize,
@@ -45,7 +45,7 @@ impl Frame {
 }
 
 // The lent store, by its count of cells: at most CELLS, of CELL words each. A word from FIRST on names a cell; a word below NUMBERS is a number.
-#[derive(Drop)]
+#[derive(Clone, Copy)]
 pub struct Store {
     pub cells: usize,
 }
@@ -74,7 +74,7 @@ impl Store {
 // has queued lie QUEUE words behind its counts.
 // In the steps slot i of frame d lies at SLOTS + 32 * d + i; the place where frame d goes on at SAVED + 2 * d, and behind it its count of slots;
 // the end of the term at p, once it was passed over, at ENDS + p / APART, as p * PLACE + its end.
-#[derive(Drop)]
+#[derive(Clone, Copy)]
 pub struct Work {}
 
 impl Work {
@@ -98,7 +98,7 @@ impl Work {
 }
 
 // A run's state: the top frame, the greatest number of frames so far, the answer's number (99 while it goes on) and its value.
-#[derive(Drop)]
+#[derive(Clone, Copy)]
 pub struct State {
     pub frame: Frame,
     pub most: usize,

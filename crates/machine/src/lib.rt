@@ -1,4 +1,6 @@
 // The machine: a start tested, and a file run over a lent store.
+#![tactic(auto)]
+
 mod frame;
 mod start;
 mod step;

@@ -17,7 +17,7 @@ use crate::frame::{
 use meaning::{AR, AT, BR, CL, GV, IF, LK, MK, NU, OP, OTHER, TL, find_mark, mark_row};
 
 // What follows a node, and where.
-#[derive(Drop)]
+#[derive(Clone, Copy)]
 pub enum Then {
     Leaf(usize),
     One(usize),
@@ -26,14 +26,14 @@ pub enum Then {
 }
 
 // How far a term is passed over: the byte reached, and the terms that are open there.
-#[derive(Drop)]
+#[derive(Clone, Copy)]
 pub struct Passed {
     pub at: usize,
     pub terms: usize,
 }
 
 // A run's answer in numbers.
-#[derive(Drop)]
+#[derive(Clone, Copy)]
 pub struct Ran {
     pub number: u32,
     pub value: u32,
@@ -43,7 +43,7 @@ pub struct Ran {
 }
 
 // A run that goes on: its state, and the nodes that are left to it.
-#[derive(Drop)]
+#[derive(Clone, Copy)]
 pub struct Pause {
     pub state: State,
     pub left: u32,

@@ -1,10 +1,12 @@
 // What code and definitions share of document 01: the table of marks, the limits, a slot, a call, and the answers.
+#![tactic(auto)]
+
 ghost use Rattle.std.specs.Prelude.{◌≡◌, ◌<◌, ◌≤◌};
 ghost use Rattle.meaning.specs.Marks.{row_at, size_at, binds_at, find_mark};
 ghost use Rattle.meaning.specs.Keys.{key_of, by_key};
 
 // A record's mark, the count of its fixed fields in bytes, and the count of slots that it binds.
-#[derive(Drop)]
+#[derive(Clone, Copy)]
 pub struct MarkRow {
     pub mark: u16,
     pub fields: u8,
@@ -275,7 +277,7 @@ pub fn find_mark(mark: u16) -> usize
 }
 
 // A slot is a number, lent, owned, a credit of a size, or used; a used one keeps the kind that it had.
-#[derive(Drop)]
+#[derive(Clone, Copy)]
 pub enum Kind {
     Number,
     Lent,
@@ -286,14 +288,14 @@ pub enum Kind {
 }
 
 // A slot with the place of the mark that bound it.
-#[derive(Drop)]
+#[derive(Clone, Copy)]
 pub struct Slot {
     pub kind: Kind,
     pub place: u16,
 }
 
 // How one function calls another: not at all, by tail calls only, or by a call that waits.
-#[derive(Drop)]
+#[derive(Clone, Copy)]
 pub enum How {
     Never,
     Tail,
@@ -301,7 +303,7 @@ pub enum How {
 }
 
 // A call written in a body.
-#[derive(Drop)]
+#[derive(Clone, Copy)]
 pub struct Call {
     pub caller: usize,
     pub callee: usize,
@@ -309,7 +311,7 @@ pub struct Call {
 }
 
 // The checker's verdict: flat with depth and functions reached, stacked with functions reached, or refused by a number at a place.
-#[derive(Drop)]
+#[derive(Clone, Copy)]
 pub enum Verdict {
     Flat(u32, u32),
     Stacked(u32),
@@ -318,7 +320,7 @@ pub enum Verdict {
 
 // How a run ends: with a value, by a refusal's number, with no branch that fits, with the budget spent, for want of a frame, or at a sum or a
 // difference outside 0..65,535.
-#[derive(Drop)]
+#[derive(Clone, Copy)]
 pub enum End {
     Done,
     Refused(u32),
@@ -329,7 +331,7 @@ pub enum End {
 }
 
 // The answer of a run.
-#[derive(Drop)]
+#[derive(Clone, Copy)]
 pub struct Answer {
     pub end: End,
     pub value: u32,

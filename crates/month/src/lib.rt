@@ -1,10 +1,12 @@
 // The month in numbers: from the answer number, steps and frames of each run, the counts by answer number and four figures.
+#![tactic(auto)]
+
 ghost use Rattle.std.specs.Prelude.{◌≡◌, ◌<◌, ◌≤◌, max, min, suc, length, get_or, leb, eqb};
 ghost use Rattle.meaning.specs.Choice.{pick};
 ghost use Rattle.month.specs.Month.{numbers, among, runs_of, known, count, counts_of, steps_of, frames_of, lowest, greatest, within, nine_tenths, figures, refused, month_of};
 
 // The figures of a month. `number` is 0, or the refusal's 80 or 81 with all else 0; `counts` are in the order of the table of answer numbers.
-#[derive(Drop)]
+#[derive(Clone, Copy)]
 pub struct Summary {
     pub number: u32,
     pub counts: [u32; 22],

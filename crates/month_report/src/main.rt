@@ -1,4 +1,6 @@
 // The month's program: reads a count of words and the words of a month's runs from standard input, high byte first, and prints the month in numbers.
+#![tactic(auto)]
+
 ghost use Rattle.std.specs.Prelude.{◌+◌, ◌*◌, ◌≤◌, ◌≡◌, ◌++◌, length, drop};
 ghost use Rattle.meaning.specs.Lines.{word_in, words_in};
 

@@ -1,5 +1,7 @@
 // How a file lies in bytes: its bytes and marks by their place, and the table of what it declares. The relation to trees stands in specs/, the proof
 // that reading gives it in proofs/.
+#![tactic(auto)]
+
 ghost use Rattle.std.specs.Prelude.{◌≡◌, ◌+◌, ◌*◌, ◌/◌, ◌%◌, ◌<◌, get_or};
 ghost use Rattle.standing.specs.Bytes.{byte_at, number_at, arity_in, fields_in, params_in, modes_in, body_in, result_in, Entry};
 
@@ -7,7 +9,7 @@ use meaning::{EARLY, find_mark};
 
 // The table of a file's declarations: a word for each constructor, then one for each function, then the place of each body. A word holds a count,
 // of fields or of parameters, and the place of the byte of the first of them.
-#[derive(Drop)]
+#[derive(Clone, Copy)]
 pub struct Table;
 
 impl Table {

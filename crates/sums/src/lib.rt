@@ -1,4 +1,6 @@
 // AR's operations on two numbers, exact in 64 bits.
+#![tactic(auto)]
+
 ghost use Rattle.std.specs.Prelude.{◌≡◌};
 ghost use Rattle.sums.specs.Sums.{sum_of};
 
