@@ -1,0 +1,16 @@
+-- `month::greatest_steps` meets its contract. The loop's invariant: the greatest is looked for from the one so far on, in what is left. Assumes nothing.
+use Prim.Native.Nat.{◌-◌, ◌≤◌}
+use mathlib.Core.Path.{◌≡◌, refl, sym, ◌∙◌}
+use native.Mathlib.Omega.{arith}
+use borrow.Author.Rules.{rules}
+use lib.ListN.{length, drop}
+use Rattle.month.specs.Month.{runs_of, steps_of, highest, greatest}
+use Rattle.month.proofs.Counting.{steps_turn, steps_end}
+use Rattle.month.proofs.greatest_steps.Given as goal
+
+abbrev pub invariant-loop-at : goal.invariant-loop-at
+invariant-loop-at l = (l.at ≤ length l.runs) × (greatest (steps_of (runs_of l.runs)) ≡ highest l.top (steps_of (runs_of (drop l.at l.runs))))
+
+abbrev pub decreases-loop-at : goal.decreases-loop-at
+decreases-loop-at l = length l.runs - l.at
+

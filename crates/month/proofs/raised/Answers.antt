@@ -1,0 +1,17 @@
+-- `month::raised` meets its contract. Assumes nothing.
+use native.Mathlib.Omega.{arith}
+use borrow.Author.Tests.{eq-eqb, ne_eqb}
+use Rattle.meaning.specs.Choice.{pick}
+use Rattle.month.proofs.raised.Goals as goal
+
+pub returns-then-had-new : goal.returns-then-had-new
+unfolding pick
+returns-then-had-new c = rw (eq-eqb _ _ c.if-number-eq0.true) (omega arith)
+
+pub returns-then-number-eq0 : goal.returns-then-number-eq0
+unfolding pick
+returns-then-number-eq0 c = rw (eq-eqb _ _ c.if-number-eq0.true) (omega arith)
+
+pub returns : goal.returns
+unfolding pick
+returns c = rw (ne_eqb _ _ c.if-number-eq0.false)
