@@ -20,10 +20,11 @@ unfolding highest
 highest_from from [] = omega arith
 highest_from from (x ∷ rest) = omega (arith, highest_from (max from x) rest)
 
-highest_above : (from : ℕ) {x : ℕ} {xs : List ℕ} → Has x xs → x ≤ highest from xs
+highest_above : {x : ℕ} (from : ℕ) {xs : List ℕ} → Has x xs → x ≤ highest from xs
 unfolding highest
-highest_above from {x} {xs = y ∷ rest} here = omega (arith, highest_from (max from x) rest)
-highest_above from {x} {xs = y ∷ rest} (there h) = highest_above (max from y) h
+highest_above {x} from {xs = y ∷ rest} here = omega (arith, highest_from (max from x) rest)
+highest_above {x} from {xs = y ∷ rest} (there h) = highest_above (max from y) h
+highest_above {x = x} from {xs = []} h = elim h [ ]
 
 max_one : (a b : ℕ) → (max a b ≡ a) ⊎ (max a b ≡ b)
 max_one a b = go (leb a b) refl
@@ -53,10 +54,11 @@ unfolding lowest
 lowest_from from [] = omega arith
 lowest_from from (x ∷ rest) = omega (arith, lowest_from (min from x) rest)
 
-lowest_below : (from : ℕ) {x : ℕ} {xs : List ℕ} → Has x xs → lowest from xs ≤ x
+lowest_below : {x : ℕ} (from : ℕ) {xs : List ℕ} → Has x xs → lowest from xs ≤ x
 unfolding lowest
-lowest_below from {x} {xs = y ∷ rest} here = omega (arith, lowest_from (min from x) rest)
-lowest_below from {x} {xs = y ∷ rest} (there h) = lowest_below (min from y) h
+lowest_below {x} from {xs = y ∷ rest} here = omega (arith, lowest_from (min from x) rest)
+lowest_below {x} from {xs = y ∷ rest} (there h) = lowest_below (min from y) h
+lowest_below {x = x} from {xs = []} h = elim h [ ]
 
 lowest_is : (from : ℕ) (xs : List ℕ) → (lowest from xs ≡ from) ⊎ Has (lowest from xs) xs
 unfolding lowest
@@ -95,6 +97,7 @@ has_those test {x} {xs = y ∷ rest} (there h) e = go (test y) (has_those test h
     go : (b : Bool) → Has x (those test rest) → Has x (pick b (y ∷ those test rest) (those test rest))
     go true k = there k
     go false k = k
+has_those test {x = x} {xs = []} h e = elim h [ ]
 
 head_or : {x y : ℕ} {rest : List ℕ} → Has x (y ∷ rest) → (x ≡ y) ⊎ Has x rest
 head_or here = inl refl
@@ -107,6 +110,7 @@ those_pass test (y ∷ rest) {x} h = go (λ k. those_pass test rest k) (test y) 
     go : (Has x (those test rest) → test x ≡ true) → (b : Bool) → test y ≡ b → Has x (pick b (y ∷ those test rest) (those test rest)) → test x ≡ true
     go later true e k = ⊎_elim (λ m. ap test m ∙ e) (λ m. later m) (head_or k)
     go later false e k = later k
+those_pass test [] {x = x} h = elim h [ ]
 
 those_among : (test : ℕ → Bool) (xs : List ℕ) {x : ℕ} → Has x (those test xs) → Has x xs
 unfolding those pick
@@ -115,6 +119,7 @@ those_among test (y ∷ rest) {x} h = go (λ k. those_among test rest k) (test y
     go : (Has x (those test rest) → Has x rest) → (b : Bool) → Has x (pick b (y ∷ those test rest) (those test rest)) → Has x (y ∷ rest)
     go later true k = ⊎_elim (λ m. subst (λ v. Has v (y ∷ rest)) (sym m) here) (λ m. there (later m)) (head_or k)
     go later false k = there (later k)
+those_among test [] {x = x} h = elim h [ ]
 
 -- ---- how many are within a bound
 

@@ -82,6 +82,7 @@ lend_all (credit s k ∷ Γ) = let r = lend_all Γ in (r.0, credit s k ∷ r.1, 
 lent_owns : {Γ : List Item} {ss : List ℕ} {s : ℕ} → Lends Γ ss → Has s ss → Owns Γ s
 lent_owns (Lends.lend {Γ} l) here = (Γ, left (all_right Γ))
 lent_owns (Lends.lend {s} l) (there h) = let r = lent_owns l h in (own s ∷ r.0, right r.1)
+lent_owns {s = s} Lends.none h = elim h [ ]
 
 pub sort_same : (a b : Sort) → same_sort a b ≡ true → a ≡ b
 sort_same Sort.number Sort.number e = refl
@@ -280,6 +281,8 @@ complete_bodies cs fs (g ∷ gs) (t ∷ ts) (Bodies.body d b) =
     let ks : List Kind = map kind_of g.parameters in
     rw (complete cs fs g.result t (bind [] ks) (subst (λ C. Derives cs fs g.result C t) (sym (context_bind [] ks)) d))
     (complete_bodies cs fs gs ts b)
+complete_bodies cs fs [] (t ∷ ts) h = elim h [ ]
+complete_bodies cs fs (g ∷ gs) [] h = elim h [ ]
 
 -- a file that was read is accepted exactly when it is derivable
 pub agreement : (file : File) → (check_file file ≡ ok tt) ↔ Derivable file

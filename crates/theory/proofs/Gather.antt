@@ -135,6 +135,7 @@ module _ {A : Type 0} (f : ℕ → Kind → List A) (slot_of : A → ℕ) (P : P
 
   pub source : (n : ℕ) (xs : Slots) {a : A} {rest : List A} → Split (gather f n xs) (a ∷ []) rest → Found n xs a rest
   source n (x ∷ xs) {a} {rest} h = step n x xs a rest (λ r g. source (suc n) xs g) x.used refl h
+  source n [] {a = a} {rest = rest} h = elim h [ ]
 
 -- the three contexts
 abbrev pub slot_in : Item → ℕ

@@ -44,7 +44,7 @@ module _ (file : File) (budget : ℕ) where
     pub reaches : Reaches cs store (of_frames owned_word under) cells
     pub counts : (c : ℕ) → count c cells + count c (of_frames credited under) + count c P ≡ count c All
 
-  below_reached : {final sort : Sort} {All P : List ℕ} {store : Store} {under : List Frame} → Below file budget final All store sort under P → UnderReached store under All P
+  below_reached : {final : Sort} {All : List ℕ} {store : Store} {sort : Sort} {P : List ℕ} {under : List Frame} → Below file budget final All store sort under P → UnderReached store under All P
   below_reached bottom = record { cells = []; reaches = Reaches.nothing; counts = λ c. omega arith }
   below_reached {store} (frame {f} {rest} {A} e q m sp a b) =
       let x = below_reached b in

@@ -49,6 +49,7 @@ first = Tree.fork {w = 65536} {F' = 1 ∷ []} refl refl refl (omega arith) (omeg
 once : Once (0 ∷ 1 ∷ [])
 once c F (left (right Split.none)) h = omega (arith, has_count h)
 once c F (right (left Split.none)) h = omega (arith, has_count h)
+once c _ (right (right {Γ₂ = Γ₂} s)) h = elim s [ ]
 
 pub P11_in_place : RunsInPlace reverse (65536 ∷ 0 ∷ []) two_cells
 P11_in_place =

@@ -11,3 +11,6 @@ use Rattle.month.proofs.within_of.Goals as goal
 
 pub loop-at-preserved : goal.loop-at-preserved
 loop-at-preserved c = (omega arith, c.loop-at.invariant.1, omega (arith, step_le_2 _ _ _ c.one_within-counted.ensures), c.loop-at.invariant.3 ∙ within_turn c.args.runs.now _ _ _ c.loop-at-test.true c.one_within-counted.ensures)
+
+pub returns-clause-value : goal.returns-clause-value
+returns-clause-value c = sym (c.loop-at.invariant.3 ∙ within_end c.args.runs.now _ _ _ c.loop-at-test.false)
