@@ -5,11 +5,11 @@ use contract.Lifetimes.{Lfts}
 use borrow.Fn.Kinds.{Dens, res_t, ended_of}
 use denote.Triple.Clauses.{AtExit}
 use Rattle.checker.proofs.check.Reads as check
-use Rattle.checker.proofs.check.Kinds as check-kinds
+use Rattle.checker.proofs.check.Kinds as check_kinds
 use Rattle.checker.proofs.judge.Reads as judge
-use Rattle.checker.proofs.judge.Kinds as judge-kinds
+use Rattle.checker.proofs.judge.Kinds as judge_kinds
 use Rattle.machine.proofs.run.Reads as run
-use Rattle.machine.proofs.run.Kinds as run-kinds
+use Rattle.machine.proofs.run.Kinds as run_kinds
 
 pub check_only : (κs : Lfts 1) (a : Dens κs check_kinds.ps) (r s : (res_t check_kinds.r κs).Denot) (e f : AtExit (ended_of 1 check_kinds.ps check_kinds.r) κs)
     → check.Post κs a r e → check.Post κs a s f → r ≡ s

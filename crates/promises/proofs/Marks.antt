@@ -3,16 +3,16 @@ use mathlib.Core.Path.{◌≡◌, sym, ◌∙◌}
 use contract.Lifetimes.{Lfts}
 use borrow.Fn.Kinds.{Dens, res_t, ended_of}
 use denote.Triple.Clauses.{AtExit}
-use Rattle.meaning.proofs.find_mark.Reads as find-mark
+use Rattle.meaning.proofs.find_mark.Reads as find_mark
 use Rattle.meaning.proofs.find_mark.Kinds as find-mark-kinds
-use Rattle.meaning.proofs.mark_row.Reads as mark-row
+use Rattle.meaning.proofs.mark_row.Reads as mark_row
 use Rattle.meaning.proofs.mark_row.Kinds as mark-row-kinds
-use Rattle.meaning.proofs.keyed_mark.Reads as keyed-mark
+use Rattle.meaning.proofs.keyed_mark.Reads as keyed_mark
 use Rattle.meaning.proofs.keyed_mark.Kinds as keyed-mark-kinds
 use Rattle.meaning.proofs.size.Reads as size
-use Rattle.meaning.proofs.size.Kinds as size-kinds
+use Rattle.meaning.proofs.size.Kinds as size_kinds
 use Rattle.meaning.proofs.binds.Reads as binds
-use Rattle.meaning.proofs.binds.Kinds as binds-kinds
+use Rattle.meaning.proofs.binds.Kinds as binds_kinds
 
 pub find_mark_only : (κs : Lfts 0) (a : Dens κs find_mark_kinds.ps) (r s : (res_t find_mark_kinds.r κs).Denot)
     (e f : AtExit (ended_of 0 find_mark_kinds.ps find_mark_kinds.r) κs) → find_mark.Post κs a r e → find_mark.Post κs a s f → r ≡ s

@@ -4,7 +4,7 @@ use contract.Lifetimes.{Lfts}
 use borrow.Fn.Kinds.{Dens, res_t, ended_of}
 use denote.Triple.Clauses.{AtExit}
 use Rattle.month.proofs.month.Reads as month
-use Rattle.month.proofs.month.Kinds as month-kinds
+use Rattle.month.proofs.month.Kinds as month_kinds
 use Rattle.month.proofs.number_at.Reads as number_at
 use Rattle.month.proofs.number_at.Kinds as number-at-kinds
 

@@ -5,22 +5,22 @@ use borrow.Fn.Kinds.{Dens, res_t, ended_of}
 use denote.Triple.Clauses.{AtExit}
 use Rattle.standing.proofs.byte_at.Reads as byte_at
 use Rattle.standing.proofs.byte_at.Kinds as byte-at-kinds
-use Rattle.standing.proofs.mark_at.Reads as mark-at
+use Rattle.standing.proofs.mark_at.Reads as mark_at
 use Rattle.standing.proofs.mark_at.Kinds as mark-at-kinds
-use Rattle.standing.proofs.entry_word.Reads as entry-word
+use Rattle.standing.proofs.entry_word.Reads as entry_word
 use Rattle.standing.proofs.entry_word.Kinds as entry-word-kinds
 use Rattle.standing.proofs.arity.Reads as arity
-use Rattle.standing.proofs.arity.Kinds as arity-kinds
+use Rattle.standing.proofs.arity.Kinds as arity_kinds
 use Rattle.standing.proofs.sorts.Reads as sorts
-use Rattle.standing.proofs.sorts.Kinds as sorts-kinds
+use Rattle.standing.proofs.sorts.Kinds as sorts_kinds
 use Rattle.standing.proofs.parameters.Reads as parameters
-use Rattle.standing.proofs.parameters.Kinds as parameters-kinds
+use Rattle.standing.proofs.parameters.Kinds as parameters_kinds
 use Rattle.standing.proofs.modes.Reads as modes
-use Rattle.standing.proofs.modes.Kinds as modes-kinds
+use Rattle.standing.proofs.modes.Kinds as modes_kinds
 use Rattle.standing.proofs.result.Reads as result
-use Rattle.standing.proofs.result.Kinds as result-kinds
+use Rattle.standing.proofs.result.Kinds as result_kinds
 use Rattle.standing.proofs.body.Reads as body
-use Rattle.standing.proofs.body.Kinds as body-kinds
+use Rattle.standing.proofs.body.Kinds as body_kinds
 
 pub byte_at_only : (κs : Lfts 1) (a : Dens κs byte_at_kinds.ps) (r s : (res_t byte_at_kinds.r κs).Denot)
     (e f : AtExit (ended_of 1 byte_at_kinds.ps byte_at_kinds.r) κs) → byte_at.Post κs a r e → byte_at.Post κs a s f → r ≡ s

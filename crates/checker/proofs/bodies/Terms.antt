@@ -31,7 +31,7 @@ use Rattle.checker.specs.Reads.{on, ReadsTerm, ReadsBranches}
 use Rattle.checker.specs.Paths.{term, pair, list, behind, places_of, Leads, Placed}
 use Rattle.checker.specs.Paths as paths
 use Rattle.checker.specs.Bodies.{Passable, fault_after, place_after, Told, Passed, PassedTwo, one, both, PassedAll}
-use Rattle.checker.specs.contracts.reading.Then as then-type
+use Rattle.checker.specs.contracts.reading.Then as then_type
 use Rattle.checker.proofs.reading.Steps.{fault_next, Fine, goes, leaf_of, one_of, two_of, many_of, fault_of, from_le, from_next, from_off, branch_off, pred_is}
 use Rattle.checker.proofs.reading.Steps as steps
 use Rattle.checker.proofs.ownership.Cycle.{node_stops, leaf_judged, one_judged, two_judged, many_judged, leaf_noted, one_noted, two_noted, many_noted}

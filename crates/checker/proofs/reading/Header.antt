@@ -28,12 +28,16 @@ tells_bind : {A B : Type 0} (f : List ℕ) (lo lo' : ℕ) (P : A → Type 0) (Q 
 unfolding on_next
 tells_bind f lo lo' P Q (ok y) (Next m) k g (tells {a = a} {n = n} e l h x) c = subst (λ b. Tells f lo' Q (k (a, n, b)) (g n)) (sym e) (c a n l h x)
 tells_bind f lo lo' P Q (refuse y z) (Fault x p) k g mum c = mum
+tells_bind {A = A} {B = B} f lo lo' P Q (ok y) (Fault x p) k g h c = elim h [ ]
+tells_bind {A = A} {B = B} f lo lo' P Q (refuse y z) (Next m) k g h c = elim h [ ]
 
 -- what was read goes into a larger thing
 tells_within : {A B : Type 0} (f : List ℕ) (lo lo' : ℕ) (P : A → Type 0) (Q : B → Type 0) (o : Outcome (A × ℕ × List ℕ)) (r : Read) (h : A → B)
     → lo' ≤ lo → ((a : A) → P a → Q (h a)) → Tells f lo P o r → Tells f lo' Q (then o (λ x. ok (h x.0, x.1, x.2))) r
 tells_within f lo lo' P Q (ok y) (Next m) h q c (tells {n = n} e l l' x) = let w : lo' ≤ n = omega arith in tells e w l' (c _ x)
 tells_within f lo lo' P Q (refuse y z) (Fault x p) h q c mum = mum
+tells_within {A = A} {B = B} f lo lo' P Q (ok y) (Fault x p) h q c e = elim e [ ]
+tells_within {A = A} {B = B} f lo lo' P Q (refuse y z) (Next m) h q c e = elim e [ ]
 
 abbrev Any : {A : Type 0} → A → Type 0
 Any a = Unit {0}

@@ -2,7 +2,7 @@
 use Prim.Native.Nat.{ℕ, ◌<◌}
 use borrow.Fn.Kinds.{In}
 use borrow.Fn.PlainCycle.{Measures, is, falls, and}
-use Rattle.lines.proofs.text.put_number.Reads as put-number
+use Rattle.lines.proofs.text.put_number.Reads as put_number
 use Rattle.lines.proofs.text.put_number.Kinds as put-number-kinds
 use Rattle.lines.proofs.text.+put_number.Lts-put_number as put-number-lts
 use Rattle.lines.proofs.text.+put_number.{statement}
