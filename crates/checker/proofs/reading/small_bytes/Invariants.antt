@@ -1,0 +1,18 @@
+-- `reading::small_bytes` meets its contract. Assumes nothing.
+use borrow.Author.Tests.{le-leb, lt-leb, lt-ltb, le-ltb}
+use native.Mathlib.Omega.{arith}
+use mathlib.Core.Path.{◌≡◌, sym, ◌∙◌}
+use lib.ListN.{length}
+use Rattle.meaning.specs.Choice.{pick}
+use Rattle.checker.specs.ReadingBytes.{small_bytes}
+use Prim.Native.Nat.{◌≤◌, ◌-◌}
+use Rattle.checker.proofs.reading.Steps.{small_turn}
+use native.Mathlib.Nat.{sub-zero}
+use Rattle.checker.proofs.reading.small_bytes.Given as goal
+
+abbrev pub invariant-loop-j : goal.invariant-loop-j
+invariant-loop-j l = (l.j ≤ l.k) × (l.p ≤ length l.file) × (small_bytes l.k l.file l.at l.top ≡ small_bytes (l.k - l.j) l.file l.p l.top)
+
+abbrev pub decreases-loop-j : goal.decreases-loop-j
+decreases-loop-j l = l.k - l.j
+

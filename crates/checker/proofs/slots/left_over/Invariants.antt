@@ -1,0 +1,18 @@
+-- `checker::slots::left_over` meets its contract. Assumes nothing.
+use Prim.Native.Nat.{◌≤◌, ◌-◌}
+use mathlib.Core.Path.{◌≡◌, refl, sym, ◌∙◌}
+use lib.ListN.{drop}
+use Rattle.meaning.specs.Ownership.{leftover}
+use Rattle.checker.specs.Bits.{bits_of}
+use Rattle.checker.specs.Slots.{slots_of, spent_by}
+use Rattle.checker.proofs.ownership.Turns.{left_end, left_found, left_later}
+use borrow.Author.Rules.{rules}
+use native.Mathlib.Omega.{arith}
+use Rattle.checker.proofs.slots.left_over.Given as goal
+
+abbrev pub invariant-loop-i : goal.invariant-loop-i
+invariant-loop-i l = (l.i ≤ l.bound) × (leftover (slots_of l.bound (spent_by (bits_of 32 l.spent) l.slots)) ≡ leftover (drop l.i (slots_of l.bound (spent_by (bits_of 32 l.spent) l.slots))))
+
+abbrev pub decreases-loop-i : goal.decreases-loop-i
+decreases-loop-i l = l.bound - l.i
+
