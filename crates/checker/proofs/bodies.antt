@@ -3,4 +3,5 @@ pub mod Telling
 pub mod Meeting
 pub mod Placing
 pub mod Terms
+pub mod Making
 pub mod Filing

@@ -11,6 +11,7 @@ use Rattle.meaning.specs.declared.How.{How}
 use Rattle.meaning.specs.declared.How.TheVariants.{Never}
 use Rattle.meaning.specs.Calls.{through, best}
 use Rattle.checker.proofs.calls.best.Goals as goal
+use Rattle.checker.proofs.calls.best.Goals.{then-most-n, else-most-n}
 
 best_next : (k : ℕ) (row : List How) (t : List ℕ) → best (k + 1) (row ∷ []) 0 t ≡ max (best k (row ∷ []) 0 t) (through (get_or row k Never) (get_or t k 0))
 unfolding best
@@ -23,5 +24,8 @@ loop-g-init c = (omega arith, refl)
 pub loop-g-preserved : goal.loop-g-preserved
 loop-g-preserved c =
     let l = c.loop-g in
-    let e = best_next l.g c.args.t1 c.args.t2 in
-    (omega arith, ⊎_elim (λ w. omega (arith, e, c.through-n.ensures, w.0.taken, w.1)) (λ w. omega (arith, e, c.through-n.ensures, w.0.left, w.1)) c.if-most-n.branch)
+    let e = best_next l.g c.args.row c.args.table in
+    (omega arith, elim c.if-most-n.branch [
+      then-most-n w ↦ omega (arith, e, c.through-n.ensures, w.if-most-n.true, w.most-is)
+      | else-most-n w ↦ omega (arith, e, c.through-n.ensures, w.if-most-n.false, w.most-is)
+    ])

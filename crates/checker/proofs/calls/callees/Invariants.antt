@@ -16,6 +16,9 @@ use Rattle.checker.specs.Filled.{filled}
 use Rattle.checker.proofs.calls.Filling.{fill_start, fill_next, fill_out, fill_end}
 use Rattle.checker.proofs.calls.callees.Given as goal
 
+abbrev pub calls : List How → ℕ → Bool
+calls row = λ g. called (get_or row g Never)
+
 abbrev pub invariant-loop-g : goal.invariant-loop-g
 invariant-loop-g l = (l.g ≤ 32) × (bits_of 32 l.out ≡ filled false l.g (calls l.row))
 

@@ -47,7 +47,7 @@ without_lowest-left-requires c = some _ (omega (arith, c.lowest-f.ensures.0))
 pub loop-k-preserved : goal.loop-k-preserved
 unfolding row
 loop-k-preserved c =
-    let square = c.args.t1 in
+    let square = c.args.square in
     let l = c.loop-k in
     let todo = bits_of 32 l.todo in
     let seen = bits_of 32 l.seen in
@@ -61,4 +61,4 @@ loop-k-preserved c =
 pub returns : goal.returns
 returns c =
     let e : 32 - c.loop-k.k ≡ 0 = omega arith in
-    sym (c.loop-k.invariant.1 ∙ rw e (done c.args.t1 (bits_of 32 c.loop-k.todo) (bits_of 32 c.loop-k.seen)))
+    sym (c.loop-k.invariant.1 ∙ rw e (done c.args.square (bits_of 32 c.loop-k.todo) (bits_of 32 c.loop-k.seen)))

@@ -19,4 +19,4 @@ loop-g-preserved c =
 
 pub returns : goal.returns
 unfolding row_of
-returns c = let l = let l = c.loop-g in fill_end Never l.g (way_of c.args.calls) c.loop-g-test.false l.invariant.0 l.invariant.1
+returns c = let l = c.loop-g in fill_end Never l.g (way_of c.args.calls) c.loop-g-test.false l.invariant.0 l.invariant.1

@@ -11,6 +11,7 @@ use native.Mathlib.Numerals.{add-one}
 use lib.ListN.{get_or}
 use Rattle.meaning.specs.Calls.{same}
 use Rattle.checker.proofs.calls.same.Goals as goal
+use Rattle.checker.proofs.calls.same.Goals.{then-a-f, else-a-f}
 
 same_next : (k : ℕ) (a b : List ℕ) → get_or a k 0 ≡ get_or b k 0 → same (k + 1) a b ≡ same k a b
 unfolding same
@@ -28,5 +29,8 @@ pub loop-f-preserved : goal.loop-f-preserved
 loop-f-preserved c =
     let l = c.loop-f in (
       omega arith,
-      ⊎_elim (λ w. w.1 ∙ sym (differs l.f _ _ w.0.taken)) (λ w. w.1 ∙ l.invariant.1 ∙ sym (same_next l.f _ _ w.0.left)) c.if-a-f.branch,
+      elim c.if-a-f.branch [
+        then-a-f w ↦ w.all-is ∙ sym (differs l.f _ _ w.if-a-f.true)
+        | else-a-f w ↦ w.all-is ∙ l.invariant.1 ∙ sym (same_next l.f _ _ w.if-a-f.false)
+      ],
     )

@@ -13,6 +13,12 @@ use Rattle.checker.specs.Square.{row_of, square_of}
 use Rattle.checker.proofs.calls.Filling.{fill_start, fill_next, fill_out, fill_end, row_none}
 use Rattle.checker.proofs.calls.square_of.Given as goal
 
+abbrev pub none : List How
+none = replicate 32 Never
+
+abbrev pub rows : List ℕ → ℕ → List How
+rows words = λ f. row_of (get_or words f 0)
+
 abbrev pub invariant-loop-f : goal.invariant-loop-f
 invariant-loop-f l = (l.f ≤ 32) × (l.square ≡ filled none l.f (rows l.calls))
 

@@ -17,35 +17,35 @@ read_con-requires c = (is_con _ _ (sym c.mark_at.ensures ∙ c.loop-number-test.
 
 pub returns-in-Fault : goal.returns-in-Fault
 unfolding ConsRead
-returns-in-Fault c = inr (conned_fails _ _ _ _ c.loop-number.invariant (sym c.mark_at.ensures ∙ c.loop-number-test.true) _ _ (sym c.read_con.ensures ∙ c.number-1.is))
+returns-in-Fault c = inr (conned_fails _ _ _ _ c.loop-number.invariant (sym c.mark_at.ensures ∙ c.loop-number-test.true) _ _ (sym c.read_con.ensures ∙ c.in-Fault.is))
 
 pub returns-then-n-ge-CONSTRUCTORS : goal.returns-then-n-ge-CONSTRUCTORS
 unfolding ConsRead
-returns-then-n-ge-CONSTRUCTORS c = inr (conned_full _ _ _ _ c.loop-number.invariant (sym c.mark_at.ensures ∙ c.loop-number-test.true) _ (sym c.read_con.ensures ∙ c.next-1.is) c.if-n-ge-CONSTRUCTORS.true)
+returns-then-n-ge-CONSTRUCTORS c = inr (conned_full _ _ _ _ c.loop-number.invariant (sym c.mark_at.ensures ∙ c.loop-number-test.true) _ (sym c.read_con.ensures ∙ c.in-Next.is) c.if-n-ge-CONSTRUCTORS.true)
 
 pub bounds-file-at : goal.bounds-file-at
 bounds-file-at c =
     let C = c.loop-number.invariant in
     let i = is_con _ _ (sym c.mark_at.ensures ∙ c.loop-number-test.true) in
-    let y = con_past _ _ _ i.0 (sym c.read_con.ensures ∙ c.next-1.is) in
+    let y = con_past _ _ _ i.0 (sym c.read_con.ensures ∙ c.in-Next.is) in
     omega (arith, y.0, y.1)
 
 pub entry_word-requires : goal.entry_word-requires
 entry_word-requires c =
     let C = c.loop-number.invariant in
     let i = is_con _ _ (sym c.mark_at.ensures ∙ c.loop-number-test.true) in
-    let y = con_past _ _ _ i.0 (sym c.read_con.ensures ∙ c.next-1.is) in
+    let y = con_past _ _ _ i.0 (sym c.read_con.ensures ∙ c.in-Next.is) in
     omega (arith, y.0, y.1)
 
 pub loop-number-smaller : goal.loop-number-smaller
 loop-number-smaller c =
     let C = c.loop-number.invariant in
     let i = is_con _ _ (sym c.mark_at.ensures ∙ c.loop-number-test.true) in
-    let y = con_past _ _ _ i.0 (sym c.read_con.ensures ∙ c.known_told-in-Next-1.is) in
+    let y = con_past _ _ _ i.0 (sym c.read_con.ensures ∙ c.in-Next.is) in
     omega (arith, y.0, y.1)
 
 pub loop-number-preserved : goal.loop-number-preserved
-loop-number-preserved c = conned_more _ _ _ _ c.loop-number.invariant (sym c.mark_at.ensures ∙ c.loop-number-test.true) _ _ (sym c.read_con.ensures ∙ c.known_told-in-Next-1.is) c.if-n-ge-CONSTRUCTORS.false c.entry_word.ensures.0 c.entry_word.ensures.1
+loop-number-preserved c = conned_more _ _ _ _ c.loop-number.invariant (sym c.mark_at.ensures ∙ c.loop-number-test.true) _ _ (sym c.read_con.ensures ∙ c.in-Next.is) c.if-n-ge-CONSTRUCTORS.false c.entry_word.ensures.0 c.entry_word.ensures.1
 
 pub returns : goal.returns
 unfolding ConsRead

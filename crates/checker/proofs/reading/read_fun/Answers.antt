@@ -17,12 +17,12 @@ unfolding fun_at on_next pick
 returns-then-k-gt-PARAMETERS c = simp (lt-leb _ _ c.if-file-at.false, lt-ltb _ _ c.if-k-gt-PARAMETERS.true)
 
 pub small_bytes-requires-in-Next : goal.small_bytes-requires-in-Next
-small_bytes-requires-in-Next c = (from_next (sym c.small_bytes.ensures ∙ c.next-1.is) (from_small _ _ _ _ (omega arith))).1
+small_bytes-requires-in-Next c = (from_next (sym c.small_bytes.ensures ∙ c.in-Next.is) (from_small _ _ _ _ (omega arith))).1
 
 pub returns-in-Fault : goal.returns-in-Fault
 unfolding fun_at on_next pick
-returns-in-Fault c = simp (lt-leb _ _ c.if-file-at.false, le-ltb _ _ c.if-k-gt-PARAMETERS.false, ← c.wide.ensures, sym c.small_bytes.ensures ∙ c.number-1.is)
+returns-in-Fault c = simp (lt-leb _ _ c.if-file-at.false, le-ltb _ _ c.if-k-gt-PARAMETERS.false, ← c.wide.ensures, sym c.small_bytes.ensures ∙ c.in-Fault.is)
 
 pub returns-in-Next : goal.returns-in-Next
 unfolding fun_at on_next pick
-returns-in-Next c = simp (lt-leb _ _ c.if-file-at.false, le-ltb _ _ c.if-k-gt-PARAMETERS.false, ← c.wide.ensures, sym c.small_bytes.ensures ∙ c.next-1.is) c.small_bytes-in-Next.ensures
+returns-in-Next c = simp (lt-leb _ _ c.if-file-at.false, le-ltb _ _ c.if-k-gt-PARAMETERS.false, ← c.wide.ensures, sym c.small_bytes.ensures ∙ c.in-Next.is) c.small_bytes-in-Next.ensures

@@ -15,35 +15,35 @@ read_fun-requires c = (is_fun _ _ (sym c.mark_at.ensures ∙ c.loop-number-test.
 
 pub returns-in-Fault : goal.returns-in-Fault
 unfolding FunsRead
-returns-in-Fault c = inr (headed_fails _ _ _ _ c.loop-number.invariant.0 (sym c.mark_at.ensures ∙ c.loop-number-test.true) _ _ (sym c.read_fun.ensures ∙ c.number-1.is))
+returns-in-Fault c = inr (headed_fails _ _ _ _ c.loop-number.invariant.0 (sym c.mark_at.ensures ∙ c.loop-number-test.true) _ _ (sym c.read_fun.ensures ∙ c.in-Fault.is))
 
 pub returns-then-n-ge-FUNCTIONS : goal.returns-then-n-ge-FUNCTIONS
 unfolding FunsRead
-returns-then-n-ge-FUNCTIONS c = inr (headed_full _ _ _ _ c.loop-number.invariant.0 (sym c.mark_at.ensures ∙ c.loop-number-test.true) _ (sym c.read_fun.ensures ∙ c.next-1.is) c.if-n-ge-FUNCTIONS.true)
+returns-then-n-ge-FUNCTIONS c = inr (headed_full _ _ _ _ c.loop-number.invariant.0 (sym c.mark_at.ensures ∙ c.loop-number-test.true) _ (sym c.read_fun.ensures ∙ c.in-Next.is) c.if-n-ge-FUNCTIONS.true)
 
 pub bounds-file-at : goal.bounds-file-at
 bounds-file-at c =
     let C = c.loop-number.invariant.0 in
     let i = is_fun _ _ (sym c.mark_at.ensures ∙ c.loop-number-test.true) in
-    let y = fun_past _ _ _ i.0 (sym c.read_fun.ensures ∙ c.next-1.is) in
+    let y = fun_past _ _ _ i.0 (sym c.read_fun.ensures ∙ c.in-Next.is) in
     omega (arith, y.0, y.1)
 
 pub entry_word-requires : goal.entry_word-requires
 entry_word-requires c =
     let C = c.loop-number.invariant.0 in
     let i = is_fun _ _ (sym c.mark_at.ensures ∙ c.loop-number-test.true) in
-    let y = fun_past _ _ _ i.0 (sym c.read_fun.ensures ∙ c.next-1.is) in
+    let y = fun_past _ _ _ i.0 (sym c.read_fun.ensures ∙ c.in-Next.is) in
     omega (arith, y.0, y.1)
 
 pub loop-number-smaller : goal.loop-number-smaller
 loop-number-smaller c =
     let C = c.loop-number.invariant.0 in
     let i = is_fun _ _ (sym c.mark_at.ensures ∙ c.loop-number-test.true) in
-    let y = fun_past _ _ _ i.0 (sym c.read_fun.ensures ∙ c.known_told-in-Next-1.is) in
+    let y = fun_past _ _ _ i.0 (sym c.read_fun.ensures ∙ c.in-Next.is) in
     omega (arith, y.0, y.1)
 
 pub loop-number-preserved : goal.loop-number-preserved
-loop-number-preserved c = (headed_more _ _ _ _ c.loop-number.invariant.0 (sym c.mark_at.ensures ∙ c.loop-number-test.true) _ _ (sym c.read_fun.ensures ∙ c.known_told-in-Next-1.is) c.if-n-ge-FUNCTIONS.false c.entry_word.ensures.0 c.entry_word.ensures.1, λ z. absurd (omega (arith, z)))
+loop-number-preserved c = (headed_more _ _ _ _ c.loop-number.invariant.0 (sym c.mark_at.ensures ∙ c.loop-number-test.true) _ _ (sym c.read_fun.ensures ∙ c.in-Next.is) c.if-n-ge-FUNCTIONS.false c.entry_word.ensures.0 c.entry_word.ensures.1, λ z. absurd (omega (arith, z)))
 
 pub returns : goal.returns
 unfolding FunsRead

@@ -11,8 +11,8 @@ returns-then-file-at c = simp (lt-ltb _ _ c.if-file-at.true)
 
 pub returns-in-Fault : goal.returns-in-Fault
 unfolding node_at node_of after_fields pick
-returns-in-Fault c = simp (le-ltb _ _ c.if-file-at.false, ← c.pair.ensures, ← c.find_mark-mark.ensures, ← c.fields.ensures, c.number-1.is)
+returns-in-Fault c = simp (le-ltb _ _ c.if-file-at.false, ← c.pair.ensures, ← c.find_mark-mark.ensures, ← c.fields.ensures, c.in-Fault.is)
 
 pub returns-in-Next : goal.returns-in-Next
 unfolding node_at node_of after_fields pick
-returns-in-Next c = simp (le-ltb _ _ c.if-file-at.false, ← c.pair.ensures, ← c.find_mark-mark.ensures, ← c.fields.ensures, c.next-1.is) c.limits.ensures
+returns-in-Next c = simp (le-ltb _ _ c.if-file-at.false, ← c.pair.ensures, ← c.find_mark-mark.ensures, ← c.fields.ensures, c.in-Next.is) c.limits.ensures

@@ -1,0 +1,11 @@
+-- `checker::check` meets its contract. Assumes nothing.
+use borrow.Author.Rules.{rules}
+use native.Mathlib.Omega.{arith}
+use Rattle.checker.proofs.Joining.{place_low, refused_told, words_told}
+use Rattle.checker.proofs.check.Goals as goal
+
+pub returns-then-end-ne0 : goal.returns-then-end-ne0
+returns-then-end-ne0 c = refused_told _ _ _ _ c.check_file-end.ensures c.if-end-ne0.true
+
+pub returns : goal.returns
+returns c = words_told _ _ _ _ c.check_file-end.ensures c.if-end-ne0.false c.shape_of.ensures
