@@ -3,18 +3,18 @@
 use Prim.Native.Nat.{ℕ, zero, suc, ◌+◌, ◌*◌, ◌≤◌, ◌<◌}
 use mathlib.Core.Bool.{Bool, true, false}
 use mathlib.Core.List.{List, [], ◌∷◌, ◌++◌, append_assoc, append-nil}
-use mathlib.Core.Path.{◌≡◌, refl, sym, ap, ◌∙◌, subst}
+use mathlib.Core.Path.{◌≡◌, refl, sym, ap, ◌∙◌}
 use native.Mathlib.Omega.{arith}
 use lib.ListN.{length, set, get_or, replicate, length-set, length-replicate, replicate-append-replicate}
 use lib.Dec.{ltb, eqb}
-use borrow.Author.Tests.{lt-ltb, le-ltb, eqb-true}
+use borrow.Author.Tests.{lt-ltb, le-ltb}
 use Rattle.meaning.specs.declared.Kind.{Kind}
 use Rattle.meaning.specs.declared.Kind.TheVariants as kind
 use Rattle.meaning.specs.declared.MarkRow.{MarkRow}
 use Rattle.meaning.specs.declared.Slot.{Slot}
 use Rattle.meaning.specs.Choice.{pick}
 use Rattle.meaning.specs.Marks.{rows, row, row_at, find_mark}
-use Rattle.standing.specs.Bytes.{byte_at, mark_at, arity_in, fields_in, params_in}
+use Rattle.standing.specs.Bytes.{byte_at, mark_at, arity_in, fields_in}
 use Rattle.checker.specs.Bits.{bits_of}
 use Rattle.checker.specs.Slots.{spent_by, unbound, bound_slot, kind_at, kept_of}
 use Rattle.checker.specs.Ownership.{laid_of, bound_of, credits_of, branch_of}

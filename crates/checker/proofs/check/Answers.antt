@@ -1,7 +1,5 @@
 -- `checker::check` meets its contract. Assumes nothing.
-use borrow.Author.Rules.{rules}
-use native.Mathlib.Omega.{arith}
-use Rattle.checker.proofs.Joining.{place_low, refused_told, words_told}
+use Rattle.checker.proofs.Joining.{refused_told, words_told}
 use Rattle.checker.proofs.check.Goals as goal
 
 pub returns-then-end-ne0 : goal.returns-then-end-ne0

@@ -1,6 +1,5 @@
 -- `checker::judge` meets its contract. Assumes nothing.
-use borrow.Author.Rules.{rules}
-use Rattle.checker.proofs.Joining.{place_low, refused_judged, fine_judged}
+use Rattle.checker.proofs.Joining.{refused_judged, fine_judged}
 use Rattle.checker.proofs.judge.Goals as goal
 
 pub returns-then-end-ne0 : goal.returns-then-end-ne0

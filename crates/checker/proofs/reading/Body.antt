@@ -386,7 +386,7 @@ empty_then (refuse x p) h = nothing
 
 no_bodies : (n : ℕ) (cs : List Constructor) (fs : List Signature) (at : ℕ) (bytes : List ℕ) → Empty (bodies n cs fs [] at bytes)
 unfolding bodies
-no_bodies n cs fs at bytes = empty_then (expect (code ND) at bytes) (λ u. empty_then (finish u.1 u.2) (λ v. empty))
+no_bodies n _ _ at bytes = empty_then (expect (code ND) at bytes) (λ u. empty_then (finish u.1 u.2) (λ v. empty))
 
 ended_then : (cs : List Constructor) (fs : List Signature) (ts : List Term) (o : Outcome (List Term × ℕ × List ℕ)) {l : List Term} {n : ℕ} {b : List ℕ} → Empty o → o ≡ ok (l, n, b)
     → then o (λ r. ok (make cs fs (ts ++ r.0))) ≡ ok (make cs fs ts)

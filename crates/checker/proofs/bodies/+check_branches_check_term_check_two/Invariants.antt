@@ -1,5 +1,5 @@
 -- The measures of `check_term`, `check_two` and `check_branches`: twice the bytes left fall, and one more is left before the two terms of an IF; what their loops keep.
-use Prim.Native.Nat.{ℕ, ◌+◌, ◌*◌, ◌-◌}
+use Prim.Native.Nat.{◌+◌, ◌*◌, ◌-◌}
 use mathlib.Core.Path.{◌≡◌}
 use lib.ListN.{length}
 use Rattle.checker.specs.Bits.{bits_of}

@@ -1,11 +1,8 @@
 -- `checker::bodies::check_bodies` meets its contract. Assumes nothing.
-use borrow.Author.Rules.{rules}
 use native.Mathlib.Omega.{arith}
 use mathlib.Core.Path.{sym, ◌∙◌}
-use Prim.Native.Nat.{◌≤◌, ◌-◌}
-use Rattle.checker.specs.Opening.{Bodied}
 use Rattle.checker.proofs.reading.Body.{few_slots, all_read}
-use Rattle.checker.proofs.bodies.Filing.{Left, all_left, body_ends, body_next, left_next, body_refused, end_refused, end_finished, all_checked}
+use Rattle.checker.proofs.bodies.Filing.{all_left, body_next, left_next, body_refused, end_refused, end_finished, all_checked}
 use Rattle.checker.proofs.bodies.check_bodies.Goals as goal
 
 pub loop-f-init : goal.loop-f-init

@@ -1,5 +1,4 @@
 -- `checker::bodies::check_body` meets its contract. Assumes nothing.
-use borrow.Author.Rules.{rules}
 use native.Mathlib.Omega.{arith}
 use mathlib.Core.Path.{sym, ◌∙◌}
 use Rattle.checker.proofs.bodies.Filing.{known_is, body_unread, made_passable, made_placed, made_passed}

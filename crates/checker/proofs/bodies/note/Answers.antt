@@ -1,5 +1,4 @@
 -- `checker::bodies::note` meets its contract. Assumes nothing.
-use borrow.Author.Rules.{rules}
 use borrow.Author.Tests.{ne_eqb}
 use Rattle.meaning.specs.Choice.{pick}
 use Rattle.checker.specs.Noting.{note_at}

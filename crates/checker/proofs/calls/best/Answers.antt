@@ -1,9 +1,7 @@
 -- `calls::best` meets its contract. Assumes nothing.
-use borrow.Author.Rules.{rules}
-use Prim.Native.Nat.{ℕ, ◌+◌, ◌-◌, ◌≤◌, max}
+use Prim.Native.Nat.{ℕ, ◌+◌, max}
 use mathlib.Core.Path.{◌≡◌, refl}
 use mathlib.Core.List.{List, [], ◌∷◌}
-use mathlib.Core.Logic.{⊎_elim}
 use native.Mathlib.Omega.{arith}
 use native.Mathlib.Numerals.{add-one}
 use lib.ListN.{get_or}
@@ -24,8 +22,10 @@ loop-g-init c = (omega arith, refl)
 pub loop-g-preserved : goal.loop-g-preserved
 loop-g-preserved c =
     let l = c.loop-g in
-    let e = best_next l.g c.args.row c.args.table in
-    (omega arith, elim c.if-most-n.branch [
-      then-most-n w ↦ omega (arith, e, c.through-n.ensures, w.if-most-n.true, w.most-is)
-      | else-most-n w ↦ omega (arith, e, c.through-n.ensures, w.if-most-n.false, w.most-is)
-    ])
+    let e = best_next l.g c.args.row c.args.table in (
+      omega arith,
+      elim c.if-most-n.branch [
+        | then-most-n w ↦ omega (arith, e, c.through-n.ensures, w.if-most-n.true, w.most-is)
+        | else-most-n w ↦ omega (arith, e, c.through-n.ensures, w.if-most-n.false, w.most-is)
+      ],
+    )

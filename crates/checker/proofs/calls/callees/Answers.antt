@@ -1,19 +1,10 @@
 -- `calls::callees` meets its contract. Assumes nothing.
-use borrow.Author.Rules.{rules}
 use Rattle.checker.proofs.calls.callees.Invariants.{calls}
-use Prim.Native.Nat.{ℕ, ◌-◌, ◌≤◌}
-use mathlib.Core.Path.{◌≡◌, sym, ap, ◌∙◌}
-use mathlib.Core.Bool.{Bool, false}
-use mathlib.Core.List.{List}
-use mathlib.Core.Logic.{⊎_elim}
+use mathlib.Core.Path.{sym, ap, ◌∙◌}
+use mathlib.Core.Bool.{false}
 use native.Mathlib.Omega.{arith}
-use lib.ListN.{get_or}
-use Rattle.meaning.specs.declared.How.{How}
-use Rattle.meaning.specs.declared.How.TheVariants.{Never}
-use Rattle.meaning.specs.Calls.{called}
 use Rattle.checker.specs.Bits.{bits_of}
 use Rattle.checker.proofs.sets.Digits.{bits_none}
-use Rattle.checker.specs.Filled.{filled}
 use Rattle.checker.proofs.calls.Filling.{fill_start, fill_next, fill_out, fill_end}
 use Rattle.checker.proofs.calls.callees.Goals as goal
 use Rattle.checker.proofs.calls.callees.Goals.{then-is_call, else-is_call}
@@ -29,7 +20,7 @@ loop-g-preserved c =
     let e = c.is_call.ensures in (
       omega arith,
       elim c.if-is_call.branch [
-        then-is_call w ↦ ap (bits_of 32) w.out-is ∙ w.with-out.ensures.1 ∙ fill_next false l.g row h l.invariant.1 (sym w.if-is_call.true ∙ e)
+        | then-is_call w ↦ ap (bits_of 32) w.out-is ∙ w.with-out.ensures.1 ∙ fill_next false l.g row h l.invariant.1 (sym w.if-is_call.true ∙ e)
         | else-is_call w ↦ ap (bits_of 32) w.out-is ∙ l.invariant.1 ∙ fill_out false l.g row h (sym e ∙ w.if-is_call.false)
       ],
     )

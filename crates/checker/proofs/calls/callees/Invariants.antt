@@ -1,19 +1,14 @@
 -- `calls::callees` meets its contract. Assumes nothing.
-use borrow.Author.Rules.{rules}
 use Prim.Native.Nat.{ℕ, ◌-◌, ◌≤◌}
-use mathlib.Core.Path.{◌≡◌, sym, ap, ◌∙◌}
+use mathlib.Core.Path.{◌≡◌}
 use mathlib.Core.Bool.{Bool, false}
 use mathlib.Core.List.{List}
-use mathlib.Core.Logic.{⊎_elim}
-use native.Mathlib.Omega.{arith}
 use lib.ListN.{get_or}
 use Rattle.meaning.specs.declared.How.{How}
 use Rattle.meaning.specs.declared.How.TheVariants.{Never}
 use Rattle.meaning.specs.Calls.{called}
 use Rattle.checker.specs.Bits.{bits_of}
-use Rattle.checker.proofs.sets.Digits.{bits_none}
 use Rattle.checker.specs.Filled.{filled}
-use Rattle.checker.proofs.calls.Filling.{fill_start, fill_next, fill_out, fill_end}
 use Rattle.checker.proofs.calls.callees.Given as goal
 
 abbrev pub calls : List How → ℕ → Bool
@@ -24,4 +19,3 @@ invariant-loop-g l = (l.g ≤ 32) × (bits_of 32 l.out ≡ filled false l.g (cal
 
 abbrev pub decreases-loop-g : goal.decreases-loop-g
 decreases-loop-g l = 32 - l.g
-

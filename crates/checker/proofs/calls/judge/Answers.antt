@@ -1,5 +1,4 @@
 -- `calls::judge` meets its contract. Assumes nothing.
-use borrow.Author.Rules.{rules}
 use mathlib.Core.Path.{◌∙◌}
 use Rattle.meaning.specs.Calls.{judge}
 use Rattle.checker.proofs.calls.judge.Goals as goal

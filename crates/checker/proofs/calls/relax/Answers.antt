@@ -1,12 +1,8 @@
 -- `calls::relax` meets its contract. Assumes nothing.
-use borrow.Author.Rules.{rules}
-use Prim.Native.Nat.{◌-◌, ◌≤◌}
-use mathlib.Core.Path.{◌≡◌, sym, ◌∙◌}
-use mathlib.Core.Logic.{⊎_elim}
+use mathlib.Core.Path.{sym, ◌∙◌}
 use native.Mathlib.Omega.{arith}
 use Rattle.meaning.specs.Calls.{relax}
 use Rattle.checker.specs.Bits.{bits_of}
-use Rattle.checker.specs.Filled.{filled}
 use Rattle.checker.proofs.calls.Filling.{fill_start, fill_next, fill_out, fill_end}
 use Rattle.checker.proofs.calls.Rounds.{best_row, next}
 use Rattle.checker.proofs.calls.relax.Goals as goal
@@ -24,7 +20,7 @@ loop-f-preserved c =
     let e = sym c.has.ensures in (
       omega arith,
       elim c.if-has.branch [
-        then-has w ↦ w.out-is ∙ fill_next 0 l.f made h l.invariant.1 (rw (e ∙ w.if-has.true, next) (w.best.ensures ∙ best_row 32 a.square l.f a.table))
+        | then-has w ↦ w.out-is ∙ fill_next 0 l.f made h l.invariant.1 (rw (e ∙ w.if-has.true, next) (w.best.ensures ∙ best_row 32 a.square l.f a.table))
         | else-has w ↦ w.out-is ∙ l.invariant.1 ∙ fill_out 0 l.f made h (rw (e ∙ w.if-has.false, next))
       ],
     )

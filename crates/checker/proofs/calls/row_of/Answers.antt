@@ -1,10 +1,6 @@
 -- `calls::row_of` meets its contract. Assumes nothing.
-use borrow.Author.Rules.{rules}
-use Prim.Native.Nat.{◌-◌, ◌≤◌}
-use mathlib.Core.Path.{◌≡◌}
 use native.Mathlib.Omega.{arith}
 use Rattle.meaning.specs.declared.How.TheVariants.{Never}
-use Rattle.checker.specs.Filled.{filled}
 use Rattle.checker.specs.Square.{way_of, row_of}
 use Rattle.checker.proofs.calls.Filling.{fill_start, fill_next, fill_end}
 use Rattle.checker.proofs.calls.row_of.Goals as goal

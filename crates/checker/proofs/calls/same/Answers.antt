@@ -1,11 +1,9 @@
 -- `calls::same` meets its contract. Assumes nothing.
-use borrow.Author.Rules.{rules}
 use borrow.Author.Tests.{eq-eqb, ne_eqb}
-use Prim.Native.Nat.{ℕ, ◌+◌, ◌-◌, ◌≤◌}
+use Prim.Native.Nat.{ℕ, ◌+◌}
 use mathlib.Core.Path.{◌≡◌, refl, sym, ◌∙◌}
 use mathlib.Core.Bool.{false}
 use mathlib.Core.List.{List}
-use mathlib.Core.Logic.{⊎_elim}
 use native.Mathlib.Omega.{arith}
 use native.Mathlib.Numerals.{add-one}
 use lib.ListN.{get_or}
@@ -30,7 +28,7 @@ loop-f-preserved c =
     let l = c.loop-f in (
       omega arith,
       elim c.if-a-f.branch [
-        then-a-f w ↦ w.all-is ∙ sym (differs l.f _ _ w.if-a-f.true)
+        | then-a-f w ↦ w.all-is ∙ sym (differs l.f _ _ w.if-a-f.true)
         | else-a-f w ↦ w.all-is ∙ l.invariant.1 ∙ sym (same_next l.f _ _ w.if-a-f.false)
       ],
     )

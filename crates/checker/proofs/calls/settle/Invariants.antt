@@ -1,16 +1,9 @@
 -- `calls::settle` meets its contract. Assumes nothing.
-use borrow.Author.Rules.{rules}
 use Prim.Native.Nat.{ℕ, ◌+◌, ◌-◌, ◌≤◌}
-use mathlib.Core.Path.{◌≡◌, refl, sym, ap, ap₂, ◌∙◌}
-use mathlib.Core.Bool.{Bool, false}
-use mathlib.Core.List.{List}
-use native.Mathlib.Omega.{arith}
-use native.Mathlib.Numerals.{add-one}
-use lib.ListN.{get_or}
-use Rattle.meaning.specs.declared.Verdict.TheVariants as verdict
-use Rattle.meaning.specs.Calls.{Square, relax, rounds, same}
+use mathlib.Core.Path.{◌≡◌}
+use mathlib.Core.Bool.{false}
+use Rattle.meaning.specs.Calls.{relax, rounds, same}
 use Rattle.checker.specs.Bits.{bits_of}
-use Rattle.checker.proofs.calls.Rounds.{rounds_low, flat_at, stacked_at}
 use Rattle.checker.proofs.calls.settle.Given as goal
 
 abbrev pub invariant-loop-k : goal.invariant-loop-k
@@ -20,4 +13,3 @@ invariant-loop-k l =
 
 abbrev pub decreases-loop-k : goal.decreases-loop-k
 decreases-loop-k l = l.reached + 1 - l.k
-

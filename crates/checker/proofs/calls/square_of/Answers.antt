@@ -1,15 +1,7 @@
 -- `calls::square_of` meets its contract. Assumes nothing.
-use borrow.Author.Rules.{rules}
 use Rattle.checker.proofs.calls.square_of.Invariants.{none, rows}
-use Prim.Native.Nat.{ℕ, ◌-◌, ◌≤◌}
-use mathlib.Core.Path.{◌≡◌, ap, ◌∙◌}
-use mathlib.Core.List.{List}
-use mathlib.Core.Logic.{⊎_elim}
+use mathlib.Core.Path.{ap, ◌∙◌}
 use native.Mathlib.Omega.{arith}
-use lib.ListN.{get_or, replicate}
-use Rattle.meaning.specs.declared.How.{How}
-use Rattle.meaning.specs.declared.How.TheVariants.{Never}
-use Rattle.checker.specs.Filled.{filled}
 use Rattle.checker.specs.Square.{row_of, square_of}
 use Rattle.checker.proofs.calls.Filling.{fill_start, fill_next, fill_out, fill_end, row_none}
 use Rattle.checker.proofs.calls.square_of.Goals as goal
@@ -25,7 +17,7 @@ loop-f-preserved c =
     let made = rows c.args.calls.now in (
       omega arith,
       elim c.if-noted-ne0.branch [
-        then-noted-ne0 w ↦ w.square-is ∙ fill_next none l.f made h l.invariant.1 w.row_of-row.ensures
+        | then-noted-ne0 w ↦ w.square-is ∙ fill_next none l.f made h l.invariant.1 w.row_of-row.ensures
         | else-noted-ne0 w ↦ w.square-is ∙ l.invariant.1 ∙ fill_out none l.f made h (ap row_of w.if-noted-ne0.false ∙ row_none)
       ],
     )

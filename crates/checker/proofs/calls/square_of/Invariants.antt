@@ -1,16 +1,12 @@
 -- `calls::square_of` meets its contract. Assumes nothing.
-use borrow.Author.Rules.{rules}
 use Prim.Native.Nat.{ℕ, ◌-◌, ◌≤◌}
-use mathlib.Core.Path.{◌≡◌, ap, ◌∙◌}
+use mathlib.Core.Path.{◌≡◌}
 use mathlib.Core.List.{List}
-use mathlib.Core.Logic.{⊎_elim}
-use native.Mathlib.Omega.{arith}
 use lib.ListN.{get_or, replicate}
 use Rattle.meaning.specs.declared.How.{How}
 use Rattle.meaning.specs.declared.How.TheVariants.{Never}
 use Rattle.checker.specs.Filled.{filled}
-use Rattle.checker.specs.Square.{row_of, square_of}
-use Rattle.checker.proofs.calls.Filling.{fill_start, fill_next, fill_out, fill_end, row_none}
+use Rattle.checker.specs.Square.{row_of}
 use Rattle.checker.proofs.calls.square_of.Given as goal
 
 abbrev pub none : List How
@@ -24,4 +20,3 @@ invariant-loop-f l = (l.f ≤ 32) × (l.square ≡ filled none l.f (rows l.calls
 
 abbrev pub decreases-loop-f : goal.decreases-loop-f
 decreases-loop-f l = 32 - l.f
-

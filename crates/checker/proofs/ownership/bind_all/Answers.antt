@@ -1,9 +1,5 @@
 -- `checker::ownership::bind_all` meets its contract. Assumes nothing.
-use Prim.Native.Nat.{◌+◌, ◌≤◌, ◌-◌}
-use mathlib.Core.Path.{◌≡◌}
-use Rattle.checker.specs.Ownership.{laid_of}
-use Rattle.checker.proofs.ownership.Turns.{scaled_small, laid_again, bound_credit, bound_plain}
-use borrow.Author.Rules.{rules}
+use Rattle.checker.proofs.ownership.Turns.{laid_again, bound_credit, bound_plain}
 use native.Mathlib.Omega.{arith}
 use Rattle.checker.proofs.ownership.bind_all.Goals as goal
 

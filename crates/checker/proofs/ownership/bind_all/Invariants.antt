@@ -2,9 +2,6 @@
 use Prim.Native.Nat.{◌+◌, ◌≤◌, ◌-◌}
 use mathlib.Core.Path.{◌≡◌}
 use Rattle.checker.specs.Ownership.{laid_of}
-use Rattle.checker.proofs.ownership.Turns.{scaled_small, laid_again, bound_credit, bound_plain}
-use borrow.Author.Rules.{rules}
-use native.Mathlib.Omega.{arith}
 use Rattle.checker.proofs.ownership.bind_all.Given as goal
 
 abbrev pub invariant-loop-j : goal.invariant-loop-j
@@ -12,4 +9,3 @@ invariant-loop-j l = (l.j ≤ l.count) × (laid_of l.file l.scale l.at l.count l
 
 abbrev pub decreases-loop-j : goal.decreases-loop-j
 decreases-loop-j l = l.count - l.j
-

@@ -1,5 +1,4 @@
 -- `checker::ownership::branch_slots` meets its contract. Assumes nothing.
-use borrow.Author.Rules.{rules}
 use Rattle.checker.specs.Ownership.{branch_of}
 use Rattle.checker.proofs.ownership.branch_slots.Goals as goal
 

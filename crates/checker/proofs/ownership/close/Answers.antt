@@ -1,5 +1,4 @@
 -- `checker::ownership::close` meets its contract. Assumes nothing.
-use borrow.Author.Rules.{rules}
 use mathlib.Core.Path.{◌∙◌}
 use Rattle.checker.proofs.ownership.Turns.{close_stops, close_left, close_fine}
 use Rattle.checker.proofs.ownership.close.Goals as goal

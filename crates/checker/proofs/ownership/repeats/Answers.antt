@@ -1,5 +1,4 @@
 -- `checker::ownership::repeats` meets its contract. Assumes nothing.
-use borrow.Author.Rules.{rules}
 use mathlib.Core.Path.{sym, ◌∙◌}
 use Rattle.meaning.specs.Choice.{pick}
 use Rattle.checker.specs.Ownership.{repeat_of}

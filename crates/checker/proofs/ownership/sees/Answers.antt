@@ -1,5 +1,4 @@
 -- `checker::ownership::sees` meets its contract. Assumes nothing.
-use borrow.Author.Rules.{rules}
 use Rattle.checker.proofs.sets.Digits.{has_bit}
 use Rattle.checker.proofs.ownership.sees.Goals as goal
 

@@ -1,5 +1,4 @@
 -- `checker::ownership::take_call` meets its contract. Assumes nothing.
-use borrow.Author.Rules.{rules}
 use Rattle.checker.specs.Ownership.{call_of}
 use Rattle.checker.proofs.ownership.take_call.Goals as goal
 

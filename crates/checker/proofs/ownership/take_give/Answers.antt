@@ -1,5 +1,4 @@
 -- `checker::ownership::take_give` meets its contract. Assumes nothing.
-use borrow.Author.Rules.{rules}
 use Rattle.checker.specs.Ownership.{give_of}
 use Rattle.checker.proofs.ownership.take_give.Goals as goal
 

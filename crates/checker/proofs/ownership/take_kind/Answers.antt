@@ -1,5 +1,4 @@
 -- `checker::ownership::take_kind` meets its contract. Assumes nothing.
-use borrow.Author.Rules.{rules}
 use mathlib.Core.Path.{◌∙◌}
 use Rattle.checker.proofs.ownership.Turns.{kind_stops, kind_spends, kind_keeps}
 use Rattle.checker.proofs.ownership.take_kind.Goals as goal

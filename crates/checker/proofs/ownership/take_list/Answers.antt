@@ -1,9 +1,6 @@
 -- `checker::ownership::take_list` meets its contract. Assumes nothing.
-use Prim.Native.Nat.{◌+◌, ◌≤◌, ◌-◌}
-use mathlib.Core.Path.{◌≡◌, sym, ◌∙◌}
-use Rattle.checker.specs.Ownership.{list_of}
-use Rattle.checker.proofs.ownership.Turns.{scaled_small, list_end, list_out, list_fault, list_again}
-use borrow.Author.Rules.{rules}
+use mathlib.Core.Path.{sym, ◌∙◌}
+use Rattle.checker.proofs.ownership.Turns.{list_end, list_out, list_fault, list_again}
 use native.Mathlib.Omega.{arith}
 use Rattle.checker.proofs.ownership.take_list.Goals as goal
 

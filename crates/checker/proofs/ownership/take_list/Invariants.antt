@@ -1,10 +1,7 @@
 -- `checker::ownership::take_list` meets its contract. Assumes nothing.
 use Prim.Native.Nat.{◌+◌, ◌≤◌, ◌-◌}
-use mathlib.Core.Path.{◌≡◌, sym, ◌∙◌}
+use mathlib.Core.Path.{◌≡◌}
 use Rattle.checker.specs.Ownership.{list_of}
-use Rattle.checker.proofs.ownership.Turns.{scaled_small, list_end, list_out, list_fault, list_again}
-use borrow.Author.Rules.{rules}
-use native.Mathlib.Omega.{arith}
 use Rattle.checker.proofs.ownership.take_list.Given as goal
 
 abbrev pub invariant-loop-j : goal.invariant-loop-j
@@ -12,4 +9,3 @@ invariant-loop-j l = (l.j ≤ l.count) × (list_of l.file l.slots l.bound l.scal
 
 abbrev pub decreases-loop-j : goal.decreases-loop-j
 decreases-loop-j l = l.count - l.j
-

@@ -1,5 +1,4 @@
 -- `checker::ownership::take_make` meets its contract. Assumes nothing.
-use borrow.Author.Rules.{rules}
 use mathlib.Core.Path.{refl}
 use Rattle.checker.specs.Ownership.{make_of}
 use Rattle.checker.proofs.ownership.Turns.{on_stops, on_fine_lem}

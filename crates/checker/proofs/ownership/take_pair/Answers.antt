@@ -1,5 +1,4 @@
 -- `checker::ownership::take_pair` meets its contract. Assumes nothing.
-use borrow.Author.Rules.{rules}
 use Rattle.checker.specs.Ownership.{two_of}
 use Rattle.checker.proofs.ownership.Turns.{on_stops, on_fine_lem}
 use Rattle.checker.proofs.ownership.take_pair.Goals as goal

@@ -1,5 +1,4 @@
 -- `reading::binds` meets its contract. Assumes nothing.
-use borrow.Author.Rules.{rules}
 use mathlib.Core.Path.{sym, ap, subst, ◌∙◌}
 use Rattle.checker.specs.ReadingBytes.{binds_of}
 use Rattle.meaning.proofs.Table.{row_small}

@@ -1,5 +1,4 @@
 -- `reading::bound_by` meets its contract. Assumes nothing.
-use borrow.Author.Rules.{rules}
 use borrow.Author.Tests.{eq-eqb, ne_eqb}
 use native.Mathlib.Omega.{arith}
 use Rattle.meaning.specs.Choice.{pick}

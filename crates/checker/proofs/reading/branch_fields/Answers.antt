@@ -1,7 +1,5 @@
 -- `reading::branch_fields` meets its contract. Assumes nothing.
-use borrow.Author.Rules.{rules}
 use borrow.Author.Tests.{le-leb, lt-leb, lt-ltb, le-ltb}
-use native.Mathlib.Omega.{arith}
 use Rattle.meaning.specs.Choice.{pick}
 use Rattle.checker.specs.ReadingBytes.{fitting, branch_fields_by}
 use Rattle.checker.proofs.reading.branch_fields.Goals as goal

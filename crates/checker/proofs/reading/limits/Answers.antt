@@ -1,5 +1,4 @@
 -- `reading::limits` meets its contract. Assumes nothing.
-use borrow.Author.Rules.{rules}
 use borrow.Author.Tests.{le-leb, lt-leb, lt-ltb, le-ltb}
 use Rattle.meaning.specs.Choice.{pick}
 use Rattle.checker.specs.ReadingBytes.{limited}
@@ -7,7 +6,7 @@ use Rattle.checker.proofs.reading.limits.Goals as goal
 
 pub returns-then-p-ge-NODES : goal.returns-then-p-ge-NODES
 unfolding limited pick
-returns-then-p-ge-NODES c = simp (← c.binds.ensures.0, le-leb _ _ c.if-p-ge-NODES.true)
+returns-then-p-ge-NODES c = simp (le-leb _ _ c.if-p-ge-NODES.true)
 
 pub returns-then-slots-gt-SLOTS : goal.returns-then-slots-gt-SLOTS
 unfolding limited pick

@@ -1,5 +1,4 @@
 -- `reading::no_function` meets its contract. Assumes nothing.
-use borrow.Author.Rules.{rules}
 use native.Mathlib.Omega.{arith}
 use Rattle.checker.proofs.reading.Body.{none_short, none_here, ends_at}
 use Rattle.checker.proofs.reading.no_function.Goals as goal

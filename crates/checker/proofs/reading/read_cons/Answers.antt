@@ -2,10 +2,7 @@
 use native.Mathlib.Omega.{arith}
 use mathlib.Core.Path.{refl, sym, ◌∙◌}
 use mathlib.Core.Logic.{inl, inr}
-use lib.ListN.{length}
-use Prim.Native.Nat.{◌-◌}
-use borrow.Author.Rules.{rules}
-use Rattle.checker.specs.Opening.{Conned, ConsRead}
+use Rattle.checker.specs.Opening.{ConsRead}
 use Rattle.checker.proofs.reading.Opened.{conned_start, is_con, con_past, conned_fails, conned_full, conned_more}
 use Rattle.checker.proofs.reading.read_cons.Goals as goal
 

@@ -1,5 +1,4 @@
 -- `reading::read_end` meets its contract. Assumes nothing.
-use borrow.Author.Rules.{rules}
 use mathlib.Core.Path.{sym, ◌∙◌}
 use Rattle.checker.specs.ReadingBytes.{on_next, end_at}
 use Rattle.checker.proofs.reading.Steps.{expect_next}

@@ -1,5 +1,4 @@
 -- `reading::read_header` meets its contract. Assumes nothing.
-use borrow.Author.Rules.{rules}
 use Rattle.checker.proofs.reading.Filed.{cons_refused, cons_read, funs_refused, funs_none, funs_some, header_refused, header_none, header_some}
 use Rattle.checker.proofs.reading.read_header.Goals as goal
 

@@ -2,12 +2,10 @@
 use borrow.Author.Tests.{le-leb, lt-leb, lt-ltb, le-ltb}
 use native.Mathlib.Omega.{arith}
 use mathlib.Core.Path.{◌≡◌, sym, ◌∙◌}
-use lib.ListN.{length}
 use Rattle.meaning.specs.Choice.{pick}
 use Rattle.checker.specs.ReadingBytes.{small_bytes}
-use Prim.Native.Nat.{◌≤◌, ◌-◌}
+use Prim.Native.Nat.{◌-◌}
 use Rattle.checker.proofs.reading.Steps.{small_turn}
-use native.Mathlib.Nat.{sub-zero}
 use Rattle.checker.proofs.reading.small_bytes.Goals as goal
 
 pub returns-then-file-p : goal.returns-then-file-p

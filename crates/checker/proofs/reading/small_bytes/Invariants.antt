@@ -1,13 +1,8 @@
 -- `reading::small_bytes` meets its contract. Assumes nothing.
-use borrow.Author.Tests.{le-leb, lt-leb, lt-ltb, le-ltb}
-use native.Mathlib.Omega.{arith}
-use mathlib.Core.Path.{◌≡◌, sym, ◌∙◌}
+use mathlib.Core.Path.{◌≡◌}
 use lib.ListN.{length}
-use Rattle.meaning.specs.Choice.{pick}
 use Rattle.checker.specs.ReadingBytes.{small_bytes}
 use Prim.Native.Nat.{◌≤◌, ◌-◌}
-use Rattle.checker.proofs.reading.Steps.{small_turn}
-use native.Mathlib.Nat.{sub-zero}
 use Rattle.checker.proofs.reading.small_bytes.Given as goal
 
 abbrev pub invariant-loop-j : goal.invariant-loop-j
@@ -15,4 +10,3 @@ invariant-loop-j l = (l.j ≤ l.k) × (l.p ≤ length l.file) × (small_bytes l.
 
 abbrev pub decreases-loop-j : goal.decreases-loop-j
 decreases-loop-j l = l.k - l.j
-

@@ -1,5 +1,4 @@
 -- `checker::sets::has` meets its contract. Assumes nothing.
-use borrow.Author.Rules.{rules}
 use Rattle.checker.proofs.sets.Digits.{has_bit}
 use Rattle.checker.proofs.sets.has.Goals as goal
 

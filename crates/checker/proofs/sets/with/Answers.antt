@@ -1,5 +1,4 @@
 -- `checker::sets::with` meets its contract. Assumes nothing.
-use borrow.Author.Rules.{rules}
 use lib.Pow.{shl_exact}
 use Rattle.checker.proofs.sets.Digits.{or_bit}
 use native.Mathlib.Nat.{one-mul}

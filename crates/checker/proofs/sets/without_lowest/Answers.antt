@@ -1,5 +1,4 @@
 -- `checker::sets::without_lowest` meets its contract. Assumes nothing.
-use borrow.Author.Rules.{rules}
 use Rattle.checker.proofs.sets.Digits.{and_low, and_less}
 use Rattle.checker.proofs.sets.without_lowest.Goals as goal
 

@@ -1,12 +1,6 @@
 -- `checker::slots::left_over` meets its contract. Assumes nothing.
-use Prim.Native.Nat.{◌≤◌, ◌-◌}
-use mathlib.Core.Path.{◌≡◌, refl, sym, ◌∙◌}
-use lib.ListN.{drop}
-use Rattle.meaning.specs.Ownership.{leftover}
-use Rattle.checker.specs.Bits.{bits_of}
-use Rattle.checker.specs.Slots.{slots_of, spent_by}
+use mathlib.Core.Path.{sym, ◌∙◌}
 use Rattle.checker.proofs.ownership.Turns.{left_end, left_found, left_later}
-use borrow.Author.Rules.{rules}
 use native.Mathlib.Omega.{arith}
 use Rattle.checker.proofs.slots.left_over.Goals as goal
 

@@ -1,13 +1,10 @@
 -- `checker::slots::left_over` meets its contract. Assumes nothing.
 use Prim.Native.Nat.{◌≤◌, ◌-◌}
-use mathlib.Core.Path.{◌≡◌, refl, sym, ◌∙◌}
+use mathlib.Core.Path.{◌≡◌}
 use lib.ListN.{drop}
 use Rattle.meaning.specs.Ownership.{leftover}
 use Rattle.checker.specs.Bits.{bits_of}
 use Rattle.checker.specs.Slots.{slots_of, spent_by}
-use Rattle.checker.proofs.ownership.Turns.{left_end, left_found, left_later}
-use borrow.Author.Rules.{rules}
-use native.Mathlib.Omega.{arith}
 use Rattle.checker.proofs.slots.left_over.Given as goal
 
 abbrev pub invariant-loop-i : goal.invariant-loop-i
@@ -15,4 +12,3 @@ invariant-loop-i l = (l.i ≤ l.bound) × (leftover (slots_of l.bound (spent_by 
 
 abbrev pub decreases-loop-i : goal.decreases-loop-i
 decreases-loop-i l = l.bound - l.i
-

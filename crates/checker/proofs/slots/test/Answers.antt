@@ -1,5 +1,4 @@
 -- `checker::slots::test` meets its contract. Assumes nothing.
-use borrow.Author.Rules.{rules}
 use mathlib.Core.Path.{sym, ◌∙◌}
 use Rattle.checker.proofs.ownership.Turns.{test_kind, test_used, test_barred, test_fine, test_size}
 use Rattle.checker.proofs.slots.test.Goals as goal
