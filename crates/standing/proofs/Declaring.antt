@@ -7,7 +7,6 @@ use native.Mathlib.Omega.{arith}
 use Rattle.meaning.specs.Syntax.{Term, File}
 use Rattle.meaning.specs.Outcome.{ok}
 use Rattle.meaning.specs.Reading.{bodies, read}
-use Rattle.meaning.specs.Ownership.{no_function}
 use Rattle.meaning.specs.Plain.{place_of, no_body}
 use Rattle.meaning.specs.Machine.{function_of, body_of}
 use Rattle.standing.specs.Bytes.{byte_at, arity_in, fields_in, params_in, modes_in, body_in}

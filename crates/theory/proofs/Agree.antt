@@ -8,7 +8,7 @@ use lib.ListN.{length, get_or, set}
 use borrow.Author.Tests.{eq-eqb}
 use Rattle.meaning.specs.Syntax.{Sort, Mode, Signature, Term, Branches, Constructor, File}
 use Rattle.meaning.specs.Syntax.{GV, AT, MK, CL, TL, OP, LK, NU, AR, IF, BR, end}
-use Rattle.meaning.specs.Outcome.{ok, ◌>>=◌, require}
+use Rattle.meaning.specs.Outcome.{ok, require}
 use Rattle.meaning.specs.Ownership.{Kind, Slots, Want, fits, take, pass, member, leftover, done, bind, check, check_branches, check_bodies, check_file, mode_owned, kind_owned, kind_of, bound_by_OP, bound_by_LK, same_sort, no_function}
 use Rattle.meaning.specs.Derivation.{Item, own, credit, Split, left, right, Has, here, there, Tuple, Lends, Context, extend, keeping, as_owned, heads, Derives, Each, Bodies, Derivable}
 use Rattle.meaning.specs.Derivation.{var, atom, reuse, call, tail, match!, match, arith, test, branch}

@@ -9,7 +9,6 @@ use Rattle.meaning.specs.declared.Verdict.TheVariants as verdict
 use Rattle.meaning.specs.Syntax.{File}
 use Rattle.meaning.specs.Outcome.{Outcome, ok, refuse}
 use Rattle.meaning.specs.Reading.{read}
-use Rattle.meaning.specs.Calls.{Flat}
 use Rattle.meaning.specs.Verdict.{accepted}
 use Rattle.meaning.specs.Plain.{Value, value, stop, evaluate}
 use Rattle.meaning.specs.Machine.{Store, Answer, function_of}

@@ -2,7 +2,7 @@
 use Prim.Native.Nat.{ℕ, zero, suc}
 use mathlib.Core.Bool.{Bool, true, false, ◌||◌, or-true}
 use mathlib.Core.List.{List, [], ◌∷◌, ◌++◌}
-use mathlib.Core.Option.{none, some}
+use mathlib.Core.Option.{some}
 use mathlib.Core.Path.{◌≡◌, refl, sym, ap, ◌∙◌, subst}
 use mathlib.Core.Logic.{◌⊎◌, inl, inr}
 use native.Mathlib.Omega.{arith}
@@ -10,7 +10,7 @@ use lib.ListN.{get_elem?, set}
 use lib.Dec.{eqb}
 use borrow.Author.Tests.{eqb-true, eq-eqb}
 use Rattle.meaning.specs.Syntax.{Mode}
-use Rattle.meaning.specs.Outcome.{ok, ◌>>=◌}
+use Rattle.meaning.specs.Outcome.{ok}
 use Rattle.meaning.specs.Ownership.{Kind, Slot, Slots, Want, take, pass, member}
 use Rattle.meaning.specs.Derivation.{Item, own, credit, Split, left, right, Has, here, there, Tuple}
 use Rattle.theory.proofs.Splits.{all_right, nothing_left, first, join, swap, has_left, has_right}

@@ -12,7 +12,7 @@ use borrow.Author.Tests.{eq-eqb, ne_eqb, eqb-true, ltb-true, ltb-false, lt-ltb}
 use Rattle.theory.proofs.Agree.{sort_same}
 use Rattle.meaning.specs.Syntax.{Sort, Mode, Signature, Term, Branches, Constructor, File}
 use Rattle.meaning.specs.Syntax.{GV, AT, MK, CL, TL, OP, LK, NU, AR, IF, BR, end}
-use Rattle.meaning.specs.Outcome.{ok, ◌>>=◌, require}
+use Rattle.meaning.specs.Outcome.{ok, require}
 use Rattle.meaning.specs.Ownership.{Kind, Slots, fresh, bind, Want, take, pass, member, leftover, done, check, check_branches, check_bodies, check_file, kind_owned, kind_of, mode_owned, bound_by_OP, bound_by_LK, same_sort, no_function}
 use Rattle.meaning.specs.Derivation.{Split, Has}
 use Rattle.meaning.specs.Plain.{Value, Values, node, empty, values, list, with_credit, arithmetic, Run, eval, evaluate, branch, no_body, body}

@@ -3,7 +3,7 @@ use Prim.Native.Nat.{ℕ}
 use mathlib.Core.List.{List, [], ◌∷◌, ◌++◌}
 use mathlib.Core.Path.{◌≡◌, refl, ap}
 use mathlib.Core.Logic.{◌⊎◌, inl, inr}
-use Rattle.meaning.specs.Derivation.{Split, none, left, right, Has, here, there}
+use Rattle.meaning.specs.Derivation.{Split, left, right, Has, here, there}
 
 module _ {A : Type 0} where
   pub all_right : (Γ : List A) → Split Γ [] Γ

@@ -21,7 +21,7 @@ use Rattle.theory.proofs.Reached.{count_cons, count_append, count_split, has_cou
 use Rattle.theory.proofs.StartCounting.{same?, le?, one_same, total, total_nil, total_append, total_le, total_ge, total_both}
 use Rattle.theory.proofs.StartCells.{namings}
 use Rattle.theory.proofs.StartTrees.{part, Grown, beside}
-use Rattle.theory.proofs.StartExact.{is_tree, named_once}
+use Rattle.theory.proofs.StartExact.{is_tree}
 
 pub once_by : (F : List ℕ) → ((c : ℕ) → count c F ≤ 1) → Once F
 once_by F h c F' sp m = omega (arith, h c, count_split c sp, count_cons c c [], one_same c c refl, has_count m)

@@ -1,5 +1,4 @@
 -- `standing::body` meets its contract. Assumes nothing.
-use borrow.Author.Rules.{rules}
 use native.Mathlib.Omega.{arith}
 use lib.ListN.{get_or-eq_default}
 use mathlib.Core.Path.{refl}

@@ -1,5 +1,4 @@
 -- `standing::constructor_word` meets its contract. Assumes nothing.
-use borrow.Author.Rules.{rules}
 use native.Mathlib.Omega.{arith}
 use mathlib.Core.Path.{refl}
 use lib.ListN.{get_or-eq_default}

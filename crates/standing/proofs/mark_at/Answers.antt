@@ -1,5 +1,4 @@
 -- `standing::mark_at` meets its contract. Assumes nothing.
-use borrow.Author.Rules.{rules}
 use Prim.Native.Nat.{◌+◌, ◌<◌, ◌≤◌}
 use lib.ListN.{length}
 use native.Mathlib.Omega.{arith}

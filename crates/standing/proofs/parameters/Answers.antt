@@ -1,5 +1,4 @@
 -- `standing::parameters` meets its contract. Assumes nothing.
-use borrow.Author.Rules.{rules}
 use native.Mathlib.Omega.{arith}
 use Prim.Native.Nat.{◌%◌}
 use Rattle.standing.proofs.Entries.{entry_by}

@@ -1,5 +1,4 @@
 -- `standing::result` meets its contract. Assumes nothing.
-use borrow.Author.Rules.{rules}
 use Prim.Native.Nat.{◌+◌, ◌/◌, ◌%◌}
 use Rattle.standing.specs.Bytes.{byte_at}
 use Rattle.standing.proofs.Entries.{entry_by}
