@@ -1,24 +1,13 @@
--- Document 01's proved cases, P1 to P14, P11's start with budget 0 (M-103), and the ends of AR's range (M-101): one table, one theorem about the definitions over it.
--- Assumes nothing.
-use Rattle.std.specs.Prelude.{ℕ, List, [], ◌∷◌, ◌++◌, map, ◌≡◌, refl, set, drop, take, replicate}
+-- Document 01's proved cases, P1 to P14, P11's start with budget 0 (M-103), and the ends of AR's range (M-101): one table. The theorem over it,
+-- `all_cases`, stands in proofs/Cases. Assumes nothing.
+use Rattle.std.specs.Prelude.{ℕ, List, [], ◌∷◌, ◌++◌, set, drop, take, replicate}
 use Rattle.meaning.specs.declared.Verdict.{Verdict}
 use Rattle.meaning.specs.declared.Verdict.TheVariants as verdicts
 use Rattle.meaning.specs.declared.End.{End}
 use Rattle.meaning.specs.declared.End.TheVariants as ends
 use Rattle.meaning.specs.declared.Answer.{Answer}
-use Rattle.meaning.specs.Choice.{pick}
-use Rattle.meaning.specs.Reading.{read, header, entry, bodies, finish, signature, constructor, term, node as read_node, limits, declared, mode, sort, expect, mark, times, below}
-use Rattle.meaning.specs.Ownership.{check, pass, check_bodies, check_file}
-use Rattle.meaning.specs.Ownership as O
-use Rattle.meaning.specs.Calls.{shape, calls, calls_from, square, fill, no_calls, row, visits, start as start_set, reach, best, relax, rounds, same, settle, judge}
-use Rattle.meaning.specs.Sets.{upto, first as smallest, how_many, zip}
-use Rattle.meaning.specs.Verdict.{accepted}
-use Rattle.meaning.specs.Verdict as checking
-use Rattle.meaning.specs.Machine.{Store, step, run}
-use Rattle.meaning.specs.Walk.{visit, drain}
-use Rattle.meaning.specs.Walk as W
-use Rattle.meaning.specs.Start.{start, answer_to, first, owned_walk, all_walk, free_walk}
-use Rattle.meaning.specs.Answers.{verdict_of, end_of, run_of}
+use Rattle.meaning.specs.Machine.{Store}
+use Rattle.meaning.specs.Answers.{verdict_of, run_of}
 
 abbrev pub reversal : List ℕ
 reversal =
@@ -103,7 +92,3 @@ cases =
     ∷ gives (run_on (operating 1) (0 ∷ 0 ∷ []) [] 8) (answers ends.Done 0 2 0 1 [])
     ∷ gives (run_on (operating 1) (0 ∷ 1 ∷ []) [] 8) (answers ends.OutOfRange 0 1 8 1 [])
     ∷ []
-
-pub all_cases : map (λ c. told_of c.asked) cases ≡ map (λ c. c.expected) cases
-unfolding told_of verdict_of run_of end_of pick checking.verdict accepted read header entry bodies finish signature constructor term read_node limits declared mode sort expect mark times below check_file check_bodies check O.take pass shape calls calls_from square fill no_calls row visits start_set reach best relax rounds same settle judge upto smallest how_many zip answer_to start first owned_walk all_walk free_walk visit W.visits drain run step
-all_cases = refl

@@ -1,17 +1,17 @@
--- The lines that the two programs print, and the input that the running program decodes. Assumes nothing.
-use Rattle.std.specs.Prelude.{ℕ, zero, suc, ◌+◌, ◌*◌, ◌/◌, ◌%◌, Bool, ◌&&◌, List, [], ◌∷◌, ◌++◌, map, ◌≡◌, refl, length, get_or, take, drop, replicate, ltb, leb, eqb}
+-- The lines that the two programs print, and the input that the running program decodes. The theorems, `all_lines` and `bad_lines`, stand
+-- in proofs/Lines. Assumes nothing.
+use Rattle.std.specs.Prelude.{ℕ, zero, suc, ◌+◌, ◌*◌, ◌/◌, ◌%◌, Bool, ◌&&◌, List, [], ◌∷◌, ◌++◌, map, length, get_or, take, drop, replicate, ltb, leb, eqb}
 use Prim.Native.Char.{code}
 use Prim.Native.String.{String}
 use Prim.Native.String as text
 use Rattle.std.proofs.Math.Option.{Option, none, some}
-use Rattle.std.proofs.Common.{ap, ◌∙◌}
 use Rattle.meaning.specs.declared.Verdict.{Verdict}
 use Rattle.meaning.specs.declared.Verdict.TheVariants as verdict
 use Rattle.meaning.specs.declared.Answer.{Answer}
 use Rattle.meaning.specs.Choice.{pick}
 use Rattle.meaning.specs.Machine.{Store}
 use Rattle.meaning.specs.Answers.{number, verdict_of, run_of}
-use Rattle.meaning.specs.Cases.{Asked, checked, run_on, Told, answer, told_of, cases, all_cases}
+use Rattle.meaning.specs.Cases.{Asked, checked, run_on, Told, answer}
 use Rattle.meaning.specs.Cases as cases
 
 -- the ASCII bytes of a text
@@ -143,19 +143,3 @@ printed =
     ∷ "0 65537 8 0 1" ∷ "32 0 7 23 1" ∷ "23 0 0 0 0"
     ∷ "accepted flat 1 1" ∷ "31 0 1 16 1" ∷ "accepted stacked 1" ∷ "33 0 32 6 32" ∷ "32 0 0 16 1"
     ∷ "0 65535 2 0 1" ∷ "34 0 1 8 1" ∷ "0 0 2 0 1" ∷ "34 0 1 8 1" ∷ []
-
-asked_lines : map (λ c. line_for c.asked) cases ≡ map line_of (map (λ c. told_of c.asked) cases)
-unfolding check_line run_line decoded pick well_formed request words_in word_in zeros answer_of told_of
-asked_lines = refl
-
-expected_lines : map line_of (map (λ c. c.expected) cases) ≡ map (λ t. ascii t ++ newline) printed
-unfolding verdict_line answer_line digits digits_within pick
-expected_lines = refl
-
-pub all_lines : map (λ c. line_for c.asked) cases ≡ map (λ t. ascii t ++ newline) printed
-all_lines = asked_lines ∙ ap (map line_of) all_cases ∙ expected_lines
-
--- an input that is empty, and one with a byte too many
-pub bad_lines : (run_line [] ≡ ascii "bad input" ++ newline) × (run_line (asked (record { file = []; args = []; store = []; budget = 0 }) ++ (0 ∷ [])) ≡ ascii "bad input" ++ newline)
-unfolding run_line decoded pick well_formed word_in
-bad_lines = (refl, refl)

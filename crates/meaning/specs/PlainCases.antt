@@ -1,16 +1,12 @@
--- The runs among the proved cases that start (P11, P13, P14, P11's start with budget 0, the ends of AR's range), on plain trees and on the machine. Assumes nothing.
-use Rattle.std.specs.Prelude.{ℕ, List, [], ◌∷◌, map, ◌≡◌, refl, take}
-use Rattle.meaning.specs.Choice.{pick}
+-- The runs among the proved cases that start (P11, P13, P14, P11's start with budget 0, the ends of AR's range), on plain trees and on the
+-- machine. The theorem over them, `plain_cases`, stands in proofs/PlainCases. Assumes nothing.
+use Rattle.std.specs.Prelude.{ℕ, List, [], ◌∷◌}
 use Rattle.meaning.specs.Outcome.{Outcome, ok, then}
-use Rattle.meaning.specs.Reading.{read, header, entry, bodies, finish, signature, constructor, term, node as read_node, limits, declared, mode, sort, expect, mark, times, below}
-use Rattle.meaning.specs.Ownership.{check, pass, check_bodies, check_file}
-use Rattle.meaning.specs.Ownership as O
 use Rattle.meaning.specs.Verdict.{accepted}
-use Rattle.meaning.specs.Machine.{Store, step, run, function_of}
-use Rattle.meaning.specs.Walk.{visit, visits, drain}
-use Rattle.meaning.specs.Start.{start, answer_to, first, owned_walk, all_walk, free_walk}
-use Rattle.meaning.specs.Decode.{tree, plain_args, as_plain}
-use Rattle.meaning.specs.Plain.{Value, number, node, empty, more, Run, value, stop, eval, evaluate}
+use Rattle.meaning.specs.Machine.{Store, function_of}
+use Rattle.meaning.specs.Start.{answer_to}
+use Rattle.meaning.specs.Decode.{plain_args, as_plain}
+use Rattle.meaning.specs.Plain.{Value, number, node, empty, more, Run, value, stop, evaluate}
 use Rattle.meaning.specs.Cases.{reversal, one_branch, waiting, operating, two_cells}
 
 pub record Start : Type 0 where
@@ -50,7 +46,3 @@ plain_run c =
 
 abbrev pub machine_run : Start → Outcome Run
 machine_run c = then (accepted c.file) (λ file. ok (as_plain file (answer_to c.file 4096 c.args c.store c.budget)))
-
-pub plain_cases : (map plain_run started ≡ expected) × (map machine_run started ≡ expected)
-unfolding evaluate eval tree accepted read header entry bodies finish signature constructor term read_node limits declared mode sort expect mark times below check_file check_bodies check O.take pass answer_to start first owned_walk all_walk free_walk visit visits drain pick run step
-plain_cases = (refl, refl)

@@ -11,8 +11,10 @@ use Rattle.meaning.specs.declared.End.TheVariants as ends
 use Rattle.meaning.specs.declared.Answer.{Answer}
 use Rattle.meaning.specs.Machine.{Store}
 use Rattle.meaning.specs.Answers.{verdict_of, run_of, Ended}
-use Rattle.meaning.specs.Cases.{Told, verdict, answer, told_of, cases, all_cases, reversal, waiting, two_cells, reversed_cells}
-use Rattle.meaning.specs.WrongTurns.{turns, all_turns}
+use Rattle.meaning.specs.Cases.{Told, verdict, answer, told_of, cases, reversal, waiting, two_cells, reversed_cells}
+use Rattle.meaning.specs.WrongTurns.{turns}
+use Rattle.meaning.proofs.Cases.{all_cases}
+use Rattle.meaning.proofs.WrongTurns.{all_turns}
 
 -- the entry of a table at a place
 told_at : (i : ℕ) → get_or (map (λ c. told_of c.asked) cases) i (verdict (Stacked 0)) ≡ get_or (map (λ c. c.expected) cases) i (verdict (Stacked 0))

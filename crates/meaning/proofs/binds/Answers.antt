@@ -1,8 +1,6 @@
 -- `binds` meets its contract. Assumes nothing.
-use borrow.Author.Rules.{rules}
-use mathlib.Core.Path.{◌≡◌, refl, sym, ap, subst, ◌∙◌}
+use mathlib.Core.Path.{◌≡◌, sym, ap, subst, ◌∙◌}
 use Prim.Native.Nat.{◌≤◌}
-use native.Mathlib.Omega.{arith}
 use Rattle.meaning.specs.Marks.{row_at}
 use Rattle.meaning.proofs.Table.{row_small}
 use Rattle.meaning.proofs.binds.Goals as goal

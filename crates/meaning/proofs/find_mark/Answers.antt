@@ -1,5 +1,4 @@
 -- `find_mark` meets its contract. Assumes nothing.
-use borrow.Author.Rules.{rules}
 use mathlib.Core.Path.{ap, sym, ◌∙◌}
 use Rattle.meaning.specs.Marks.{row_at}
 use Rattle.meaning.proofs.Table.{by_row, no_row}

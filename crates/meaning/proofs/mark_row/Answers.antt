@@ -1,4 +1,3 @@
-use borrow.Author.Rules.{rules}
 use Rattle.meaning.proofs.Table.{past_rows, next_place}
 use native.Mathlib.Omega.{arith}
 use Rattle.meaning.proofs.mark_row.Goals as goal

@@ -1,4 +1,3 @@
-use borrow.Author.Rules.{rules}
 use mathlib.Core.Path.{refl}
 use Rattle.meaning.specs.Marks.{row_at}
 use Rattle.meaning.proofs.table_row.Goals as goal
