@@ -1,10 +1,6 @@
 -- `month::all_known` meets its contract. The loop's invariant: all are known exactly when all that are left are. Assumes nothing.
-use Prim.Native.Nat.{◌-◌, ◌≤◌}
-use mathlib.Core.Path.{◌≡◌, refl, sym, ◌∙◌}
+use mathlib.Core.Path.{sym, ◌∙◌}
 use native.Mathlib.Omega.{arith}
-use borrow.Author.Rules.{rules}
-use lib.ListN.{length, drop}
-use Rattle.month.specs.Month.{runs_of, known}
 use Rattle.month.proofs.Counting.{known_turn, known_stop, known_end}
 use Rattle.month.proofs.all_known.Goals as goal
 

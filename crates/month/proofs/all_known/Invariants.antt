@@ -1,11 +1,8 @@
 -- `month::all_known` meets its contract. The loop's invariant: all are known exactly when all that are left are. Assumes nothing.
 use Prim.Native.Nat.{◌-◌, ◌≤◌}
-use mathlib.Core.Path.{◌≡◌, refl, sym, ◌∙◌}
-use native.Mathlib.Omega.{arith}
-use borrow.Author.Rules.{rules}
+use mathlib.Core.Path.{◌≡◌}
 use lib.ListN.{length, drop}
 use Rattle.month.specs.Month.{runs_of, known}
-use Rattle.month.proofs.Counting.{known_turn, known_stop, known_end}
 use Rattle.month.proofs.all_known.Given as goal
 
 abbrev pub invariant-loop-at : goal.invariant-loop-at
@@ -13,4 +10,3 @@ invariant-loop-at l = (l.at ≤ length l.runs) × (known (runs_of l.runs) ≡ kn
 
 abbrev pub decreases-loop-at : goal.decreases-loop-at
 decreases-loop-at l = length l.runs - l.at
-

@@ -1,11 +1,6 @@
 -- `month::count_of` meets its contract. The loop's invariant: what is counted and the count of what is left make the count. Assumes nothing.
-use Prim.Native.Nat.{◌+◌, ◌*◌, ◌-◌, ◌≤◌}
-use mathlib.Core.Path.{◌≡◌, sym, ◌∙◌}
+use mathlib.Core.Path.{sym, ◌∙◌}
 use native.Mathlib.Omega.{arith}
-use native.Mathlib.Nat.{zero-add}
-use borrow.Author.Rules.{rules}
-use lib.ListN.{length, drop}
-use Rattle.month.specs.Month.{runs_of, count}
 use Rattle.month.proofs.Counting.{step_le, count_turn, count_end}
 use Rattle.month.proofs.count_of.Goals as goal
 

@@ -1,11 +1,7 @@
 -- `month::counts_of` meets its contract. The loop's invariant: the counts up to `i` are made. Assumes nothing.
-use Prim.Native.Nat.{◌-◌, ◌≤◌}
-use mathlib.Core.Path.{◌≡◌}
 use native.Mathlib.Omega.{arith}
-use borrow.Author.Rules.{rules}
-use lib.ListN.{length}
-use Rattle.month.specs.Month.{numbers, runs_of, count, counts_of}
-use Rattle.month.proofs.Counting.{partly, counts_start, counts_next, counts_done}
+use Rattle.month.specs.Month.{runs_of, count, counts_of}
+use Rattle.month.proofs.Counting.{counts_start, counts_next, counts_done}
 use Rattle.month.proofs.counts_of.Goals as goal
 
 pub loop-i-init : goal.loop-i-init

@@ -1,5 +1,4 @@
 -- `month::figures` meets its contract. Assumes nothing.
-use borrow.Author.Rules.{rules}
 use Rattle.month.specs.Month.{least, figures}
 use Rattle.month.proofs.figures.Goals as goal
 

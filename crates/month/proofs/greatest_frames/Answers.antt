@@ -1,10 +1,7 @@
 -- `month::greatest_frames` meets its contract. The loop's invariant: the greatest is looked for from the one so far on, in what is left. Assumes nothing.
-use Prim.Native.Nat.{◌-◌, ◌≤◌}
-use mathlib.Core.Path.{◌≡◌, refl, sym, ◌∙◌}
+use mathlib.Core.Path.{refl, sym, ◌∙◌}
 use native.Mathlib.Omega.{arith}
-use borrow.Author.Rules.{rules}
-use lib.ListN.{length, drop}
-use Rattle.month.specs.Month.{runs_of, frames_of, highest, greatest}
+use Rattle.month.specs.Month.{greatest}
 use Rattle.month.proofs.Counting.{frames_turn, frames_end}
 use Rattle.month.proofs.greatest_frames.Goals as goal
 

@@ -1,9 +1,6 @@
 -- `month::in_table` meets its contract. The loop's invariant: the number is in the table exactly when it is in what is left of it. Assumes nothing.
-use Prim.Native.Nat.{◌-◌, ◌≤◌}
-use mathlib.Core.Path.{◌≡◌, refl, sym, ◌∙◌}
+use mathlib.Core.Path.{sym, ◌∙◌}
 use native.Mathlib.Omega.{arith}
-use lib.ListN.{drop}
-use Rattle.month.specs.Month.{numbers, among}
 use Rattle.month.proofs.Counting.{among_found, among_later, among_end}
 use Rattle.month.proofs.in_table.Goals as goal
 

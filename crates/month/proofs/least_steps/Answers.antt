@@ -1,10 +1,6 @@
 -- `month::least_steps` meets its contract. The loop's invariant: the least is looked for from the one so far on, in what is left. Assumes nothing.
-use Prim.Native.Nat.{◌-◌, ◌≤◌}
-use mathlib.Core.Path.{◌≡◌, refl, sym, ◌∙◌}
+use mathlib.Core.Path.{sym, ◌∙◌}
 use native.Mathlib.Omega.{arith}
-use borrow.Author.Rules.{rules}
-use lib.ListN.{length, drop}
-use Rattle.month.specs.Month.{runs_of, steps_of, lowest}
 use Rattle.month.proofs.Counting.{least_turn, least_end}
 use Rattle.month.proofs.least_steps.Goals as goal
 

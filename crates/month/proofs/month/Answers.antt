@@ -1,9 +1,8 @@
 -- `month::month` meets its contract. Assumes nothing.
-use borrow.Author.Rules.{rules}
 use mathlib.Core.Path.{sym, ◌∙◌}
 use borrow.Author.Tests.{eq-eqb, ne_eqb, lt-ltb, le-ltb}
 use Rattle.meaning.specs.Choice.{pick}
-use Rattle.month.specs.Month.{refused, figures, month_of}
+use Rattle.month.specs.Month.{month_of}
 use Rattle.month.proofs.month.Goals as goal
 
 pub returns-then-runs-gt12288 : goal.returns-then-runs-gt12288

@@ -1,9 +1,7 @@
 -- `month::nine_tenths` meets its contract. The loop's invariant: the figure lies between the two bounds. Assumes nothing.
-use Prim.Native.Nat.{◌+◌, ◌*◌, ◌-◌, ◌/◌, ◌≤◌}
-use mathlib.Core.Path.{◌≡◌}
+use Prim.Native.Nat.{◌+◌, ◌-◌, ◌/◌}
 use native.Mathlib.Omega.{arith}
-use lib.ListN.{length}
-use Rattle.month.specs.Month.{runs_of, steps_of, nine_tenths}
+use Rattle.month.specs.Month.{runs_of, steps_of}
 use Rattle.month.proofs.Counting.{ended_count}
 use Rattle.month.proofs.Tenths.{enough_above, short_below, below_greatest}
 use Rattle.month.proofs.nine_tenths.Goals as goal

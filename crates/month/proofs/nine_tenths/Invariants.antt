@@ -1,11 +1,8 @@
 -- `month::nine_tenths` meets its contract. The loop's invariant: the figure lies between the two bounds. Assumes nothing.
-use Prim.Native.Nat.{◌+◌, ◌*◌, ◌-◌, ◌/◌, ◌≤◌}
+use Prim.Native.Nat.{◌*◌, ◌-◌, ◌≤◌}
 use mathlib.Core.Path.{◌≡◌}
-use native.Mathlib.Omega.{arith}
 use lib.ListN.{length}
 use Rattle.month.specs.Month.{runs_of, steps_of, nine_tenths}
-use Rattle.month.proofs.Counting.{ended_count}
-use Rattle.month.proofs.Tenths.{enough_above, short_below, below_greatest}
 use Rattle.month.proofs.nine_tenths.Given as goal
 
 abbrev pub invariant-loop-low : goal.invariant-loop-low
@@ -13,4 +10,3 @@ invariant-loop-low l = (length l.runs ≤ 12288) × (l.wanted ≡ 9 * length (st
 
 abbrev pub decreases-loop-low : goal.decreases-loop-low
 decreases-loop-low l = l.high - l.low
-

@@ -1,5 +1,4 @@
 -- `month::number_at` meets its contract. Assumes nothing.
-use borrow.Author.Rules.{rules}
 use Rattle.month.proofs.Counting.{past_table}
 use Rattle.month.proofs.number_at.Goals as goal
 

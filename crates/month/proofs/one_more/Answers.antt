@@ -1,5 +1,4 @@
 -- `month::one_more` meets its contract. Assumes nothing.
-use borrow.Author.Rules.{rules}
 use native.Mathlib.Omega.{arith}
 use Rattle.meaning.specs.Choice.{pick}
 use Rattle.month.proofs.one_more.Goals as goal

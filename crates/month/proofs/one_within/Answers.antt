@@ -1,5 +1,4 @@
 -- `month::one_within` meets its contract. Assumes nothing.
-use borrow.Author.Rules.{rules}
 use borrow.Author.Tests.{eq-eqb, ne_eqb}
 use Rattle.meaning.specs.Choice.{pick}
 use Rattle.month.proofs.one_within.Goals as goal

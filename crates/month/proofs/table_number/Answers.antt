@@ -1,5 +1,4 @@
 -- `month::table_number` meets its contract. Assumes nothing.
-use borrow.Author.Rules.{rules}
 use mathlib.Core.Path.{refl}
 use Rattle.month.specs.Month.{numbers}
 use Rattle.month.proofs.table_number.Goals as goal

@@ -1,11 +1,6 @@
 -- `month::within_of` meets its contract. The loop's invariant: what is counted and the count of what is left make the count. Assumes nothing.
-use Prim.Native.Nat.{◌+◌, ◌*◌, ◌-◌, ◌≤◌}
-use mathlib.Core.Path.{◌≡◌, sym, ◌∙◌}
+use mathlib.Core.Path.{sym, ◌∙◌}
 use native.Mathlib.Omega.{arith}
-use native.Mathlib.Nat.{zero-add}
-use borrow.Author.Rules.{rules}
-use lib.ListN.{length, drop}
-use Rattle.month.specs.Month.{runs_of, steps_of, within}
 use Rattle.month.proofs.Counting.{step_le_2, within_turn, within_end}
 use Rattle.month.proofs.within_of.Goals as goal
 

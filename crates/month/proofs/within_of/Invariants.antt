@@ -1,12 +1,8 @@
 -- `month::within_of` meets its contract. The loop's invariant: what is counted and the count of what is left make the count. Assumes nothing.
 use Prim.Native.Nat.{◌+◌, ◌*◌, ◌-◌, ◌≤◌}
-use mathlib.Core.Path.{◌≡◌, sym, ◌∙◌}
-use native.Mathlib.Omega.{arith}
-use native.Mathlib.Nat.{zero-add}
-use borrow.Author.Rules.{rules}
+use mathlib.Core.Path.{◌≡◌}
 use lib.ListN.{length, drop}
 use Rattle.month.specs.Month.{runs_of, steps_of, within}
-use Rattle.month.proofs.Counting.{step_le_2, within_turn, within_end}
 use Rattle.month.proofs.within_of.Given as goal
 
 abbrev pub invariant-loop-at : goal.invariant-loop-at
@@ -14,4 +10,3 @@ invariant-loop-at l = (l.at ≤ length l.runs) × (length l.runs ≤ 12288) × (
 
 abbrev pub decreases-loop-at : goal.decreases-loop-at
 decreases-loop-at l = length l.runs - l.at
-

@@ -1,12 +1,9 @@
 -- `sum` meets its contract. Assumes nothing.
-use borrow.Author.Rules.{rules}
-use native.Mathlib.Omega.{arith}
 use Prim.Native.Nat.{ℕ, zero, suc}
-use mathlib.Core.Path.{◌≡◌, refl, sym, ◌∙◌}
+use mathlib.Core.Path.{◌≡◌, refl}
 use lib.Dec.{eqb}
 use Rattle.meaning.specs.Plain.{flag}
 use Rattle.sums.specs.Sums.{sum_of}
-use Rattle.sums.proofs.sum.Goals as goal
 
 other : (op x y : ℕ) → (op ≡ 0 → ⊥) → (op ≡ 1 → ⊥) → (op ≡ 2 → ⊥) → sum_of op x y ≡ flag (eqb x y)
 other zero x y a b c = absurd (a refl)
