@@ -99,7 +99,8 @@ module _ (bytes decl store store' : List ℕ) where
       filled l x e =
           let g = words_length store ((w - 65536) * 5 + 1) k in
           let r = laid_behind 1088 s.work to ws (omega (arith, g)) in
-          elim x [ true ↦ drop-set-lt 1088 (laid s.work to ws) (to + k) w (omega arith) ∙ r | false ↦ r ]
+          elim x as (λ y. drop 1088 (pick y (set (laid s.work to ws) (to + k) w) (laid s.work to ws)) ≡ drop 1088 s.work)
+          [ true ↦ drop-set-lt 1088 (laid s.work to ws) (to + k) w (omega arith) ∙ r | false ↦ r ]
 
       large : 0 < b → (x : Bool) → ltb w 65536 ≡ x
           → behind (pick x (top (moved c.state b) s.work)

@@ -4,7 +4,7 @@ use mathlib.Core.Option.{Option, none, some}
 use Rattle.machine.specs.Layout.{Top, top, moved}
 use Rattle.machine.specs.declared.frame.State as Words
 use Rattle.machine.specs.Represents.{After, Fit, Reached}
-use Rattle.machine.specs.Steps.{Steps, place_of}
+use Rattle.machine.specs.Steps.{Steps, place_of as place_of_state}
 use Rattle.machine.proofs.step.Whole.{fit_sim, fit_next}
 use Rattle.machine.proofs.step.Needed.{fit_mark}
 use Rattle.meaning.specs.Syntax.{Term, File}
@@ -65,33 +65,33 @@ module _ {bytes decl store store' : List ℕ} {c c' : Top} (g : Fit bytes decl s
   goes k (M.stuck x p) e a z = let q = a.1 in absurd (omega (arith, (stuck_within g.file g.st x p e).1))
 
   stops : (k n : ℕ) (r : Step) → step g.file g.st ≡ r → After g.file bytes c.state.most g.st.store store' c' r → (c'.state.number ≡ 99 → ⊥)
-      → run g.file (suc k) g.st n c.state.most ≡ answers c'.state.number c'.state.value (n + 1) (place_of c'.state) c'.state.most store'
-  unfolding run place_of pick
+      → run g.file (suc k) g.st n c.state.most ≡ answers c'.state.number c'.state.value (n + 1) (place_of_state c'.state) c'.state.most store'
+  unfolding run place_of_state pick
   stops k n (M.next st) e a z = absurd (z a.1)
   stops k n (M.finished v) e a z =
       let q : suc n ≡ n + 1 = omega arith in
-      let w : place_of c'.state ≡ 0 = rw (eq-eqb c'.state.number 0 a.1) in
+      let w : place_of_state c'.state ≡ 0 = rw (eq-eqb c'.state.number 0 a.1) in
       ap (λ r. elim r as (λ _. Answer) [ M.next st' ↦ run g.file k st' (suc n) (max c.state.most (suc (length st'.under))) | M.finished v ↦ answers 0 v (suc n) 0 c.state.most g.st.store | M.stuck a p ↦ answers a 0 (suc n) p c.state.most g.st.store ]) e ∙ (λ i. answers (sym a.1 i) (sym a.2 i) (q i) (sym w i) (sym a.3 i) (sym a.0 i))
   stops k n (M.stuck x p) e a z =
       let q : suc n ≡ n + 1 = omega arith in
       let y : c'.state.number ≡ 0 → ⊥ = λ w. omega (arith, a.1, w, (stuck_within g.file g.st x p e).0) in
-      let w : place_of c'.state ≡ p = rw (ne_eqb c'.state.number 0 y) a.3 in
+      let w : place_of_state c'.state ≡ p = rw (ne_eqb c'.state.number 0 y) a.3 in
       ap (λ r. elim r as (λ _. Answer) [ M.next st' ↦ run g.file k st' (suc n) (max c.state.most (suc (length st'.under))) | M.finished v ↦ answers 0 v (suc n) 0 c.state.most g.st.store | M.stuck a p ↦ answers a 0 (suc n) p c.state.most g.st.store ]) e ∙ (λ i. answers (sym a.1 i) (sym a.2 i) (q i) (sym w i) (sym a.4 i) (sym a.0 i))
 
   small : (r : Step) → step g.file g.st ≡ r → After g.file bytes c.state.most g.st.store store' c' r → (c'.state.number ≡ 99 → ⊥)
-      → (place_of c'.state ≤ 4096) × (c'.state.most ≤ 32)
-  unfolding place_of pick
+      → (place_of_state c'.state ≤ 4096) × (c'.state.most ≤ 32)
+  unfolding place_of_state pick
   small (M.next st) e a z = absurd (z a.1)
   small (M.finished v) e a z =
-      let w : place_of c'.state ≡ 0 = rw (eq-eqb c'.state.number 0 a.1) in
+      let w : place_of_state c'.state ≡ 0 = rw (eq-eqb c'.state.number 0 a.1) in
       (omega (arith, w), omega (arith, a.3, g.high))
   small (M.stuck x p) e a z =
       let y : c'.state.number ≡ 0 → ⊥ = λ w. omega (arith, a.1, w, (stuck_within g.file g.st x p e).0) in
-      let w : place_of c'.state ≡ c'.state.frame.at = rw (ne_eqb c'.state.number 0 y) in
+      let w : place_of_state c'.state ≡ c'.state.frame.at = rw (ne_eqb c'.state.number 0 y) in
       let q : p ≡ place_of g.st.top.todo = subst (λ r. EndsAt (place_of g.st.top.todo) r) e (ends_at g.file g.st.top.todo g.st.top.slots g.st.store g.st.under) in
       (omega (arith, w, a.3, q, g.represents.here, fit_mark g, g.declared.size), omega (arith, a.4, g.high))
 
-  pub stop_small : (c'.state.number ≡ 99 → ⊥) → (place_of c'.state ≤ 4096) × (c'.state.most ≤ 32)
+  pub stop_small : (c'.state.number ≡ 99 → ⊥) → (place_of_state c'.state ≤ 4096) × (c'.state.most ≤ 32)
   stop_small z = small (step g.file g.st) refl (fit_sim g s) z
 
 -- one step of those left
@@ -109,12 +109,12 @@ module _ {bytes decl store₀ store store' : List ℕ} {c₀ c c' : Top} {limit 
       (h.0, λ n. g.1 n ∙ ap (λ k. run g.0.file k g.0.st (n + (limit - left)) c.state.most) (one_less l) ∙ h.1 (n + (limit - left)) ∙ ap (λ k. run h.0.file (left - 1) h.0.st k c'.state.most) (one_more n l m))
 
   pub reached_stop : Reached bytes decl store₀ c₀ limit left store c → Steps bytes decl store c store' c' → (c'.state.number ≡ 99 → ⊥) → (f : Fit bytes decl store₀ c₀)
-      → answers c'.state.number c'.state.value (limit - (left - 1)) (place_of c'.state) c'.state.most store' ≡ run f.file limit f.st 0 c₀.state.most
+      → answers c'.state.number c'.state.value (limit - (left - 1)) (place_of_state c'.state) c'.state.most store' ≡ run f.file limit f.st 0 c₀.state.most
   reached_stop r s z f =
       let g = r f in
       let e = stops g.0 s (left - 1) (0 + (limit - left)) (step g.0.file g.0.st) refl (fit_sim g.0 s) z in
       let o : limit - (left - 1) ≡ (0 + (limit - left)) + 1 = omega arith in
-      ap (λ n. answers c'.state.number c'.state.value n (place_of c'.state) c'.state.most store') o ∙ sym (g.1 0 ∙ ap (λ k. run g.0.file k g.0.st (0 + (limit - left)) c.state.most) (one_less l) ∙ e)
+      ap (λ n. answers c'.state.number c'.state.value n (place_of_state c'.state) c'.state.most store') o ∙ sym (g.1 0 ∙ ap (λ k. run g.0.file k g.0.st (0 + (limit - left)) c.state.most) (one_less l) ∙ e)
 
 module _ {bytes decl store₀ store : List ℕ} {c₀ c : Top} {limit : ℕ} where
   pub reached_end : (left : ℕ) → Reached bytes decl store₀ c₀ limit left store c → left ≡ 0 → (f : Fit bytes decl store₀ c₀)

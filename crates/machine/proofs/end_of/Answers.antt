@@ -1,0 +1,28 @@
+use Rattle.std.proofs.Common.{ne_eqb}
+use Rattle.meaning.specs.Choice.{pick}
+use Rattle.meaning.specs.Answers.{end_of}
+use Rattle.machine.proofs.end_of.Goals as goal
+
+pub returns-in-0 : goal.returns-in-0
+unfolding end_of pick
+returns-in-0 c = simp c.in-0.is
+
+pub returns-in-31 : goal.returns-in-31
+unfolding end_of pick
+returns-in-31 c = simp c.in-31.is
+
+pub returns-in-32 : goal.returns-in-32
+unfolding end_of pick
+returns-in-32 c = simp c.in-32.is
+
+pub returns-in-33 : goal.returns-in-33
+unfolding end_of pick
+returns-in-33 c = simp c.in-33.is
+
+pub returns-in-34 : goal.returns-in-34
+unfolding end_of pick
+returns-in-34 c = simp c.in-34.is
+
+pub returns-in_default : goal.returns-in_default
+unfolding end_of pick
+returns-in_default c = simp (ne_eqb _ _ c.in_default.in_default-own.rest.0.0.0.0.1, ne_eqb _ _ c.in_default.in_default-own.rest.0.0.0.1, ne_eqb _ _ c.in_default.in_default-own.rest.0.0.1, ne_eqb _ _ c.in_default.in_default-own.rest.0.1, ne_eqb _ _ c.in_default.in_default-own.rest.1)

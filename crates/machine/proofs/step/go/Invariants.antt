@@ -1,0 +1,15 @@
+-- The proof of `go`. Assumes nothing.
+use Rattle.std.proofs.Common.{◌≡◌, ◌-◌, ◌≤◌, length, drop, refl, ◌∙◌, arith, rules}
+use Rattle.machine.specs.Layout.{top}
+use Rattle.machine.specs.Represents.{Reached}
+use Rattle.machine.proofs.step.Needed.{fit_mark}
+use Rattle.machine.proofs.step.Runs.{reached_start, reached_next, reached_on, reached_stop, reached_end, stop_small}
+use Rattle.machine.proofs.step.Behind.{step_behind}
+use Rattle.machine.proofs.step.go.Given as goal
+
+abbrev pub invariant-loop-t : goal.invariant-loop-t
+invariant-loop-t l = (l.t.left ≤ l.initial.t.left) × (length l.store ≡ length l.initial.store) × (length l.work ≡ length l.initial.work) × Reached l.file l.decl l.initial.store (top l.initial.t.state l.initial.work) l.initial.t.left l.t.left l.store (top l.t.state l.work) × (drop 4096 l.work ≡ drop 4096 l.initial.work)
+
+abbrev pub decreases-loop-t : goal.decreases-loop-t
+decreases-loop-t l = l.t.left
+

@@ -1,0 +1,14 @@
+-- The proof of `known_steps`. Assumes nothing.
+use Rattle.std.proofs.Common.{◌≡◌, ◌≤◌, length, drop, refl, ap, ◌∙◌, arith, rules}
+use Rattle.machine.specs.Layout.{top}
+use Rattle.machine.specs.Represents.{Reached}
+use Rattle.machine.proofs.step.Runs.{reached_start, reached_next, reached_same, reached_from, fit_from}
+use Rattle.machine.proofs.step.Behind.{step_behind}
+use Rattle.machine.proofs.step.known_steps.Given as goal
+
+abbrev pub invariant-loop-left : goal.invariant-loop-left
+invariant-loop-left l = (l.left ≤ l.limit) × (length l.store ≡ length l.initial.store) × (length l.work ≡ length l.initial.work) × Reached l.file l.decl l.initial.store (top l.initial.cur l.initial.work) l.limit l.left l.store (top l.cur l.work) × (drop 4096 l.work ≡ drop 4096 l.initial.work)
+
+abbrev pub decreases-loop-left : goal.decreases-loop-left
+decreases-loop-left l = l.left
+

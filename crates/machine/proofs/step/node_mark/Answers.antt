@@ -1,0 +1,8 @@
+-- The proof of `node_mark`. Assumes nothing.
+use Rattle.std.proofs.Common.{◌+◌, arith, rules}
+use Rattle.standing.specs.Bytes.{byte_at}
+use Rattle.machine.proofs.step.Tries.{by_letters}
+use Rattle.machine.proofs.step.node_mark.Goals as goal
+
+pub returns : goal.returns
+returns c = rw (c.by_distance.ensures, c.byte.ensures.0, c.byte-2.ensures.0) (by_letters (byte_at c.args.file.now c.args.at) (byte_at c.args.file.now (c.args.at + 1)) (omega (arith, c.byte-2.ensures.0, c.byte-2.ensures.1)) (omega (arith, c.byte.ensures.0, c.byte.ensures.1)) c.requires.1)
