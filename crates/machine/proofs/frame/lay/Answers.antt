@@ -7,9 +7,5 @@ use Rattle.machine.proofs.frame.lay.Goals as goal
 pub loop-j-preserved : goal.loop-j-preserved
 loop-j-preserved c = (omega arith, simp length-set c.loop-j.invariant.1, turn_words _ _ _ _ 0 _ _ _ c.loop-j-test.true (omega arith) c.loop-j.invariant.2)
 
--- NO NEED same-length
--- same_length : tie.Need-same-length invariant_loop decreases_loop
--- same_length c = c.before.loop.invariant.1
-
 pub returns : goal.returns
 returns c = end_words _ _ _ _ 0 _ _ c.loop-j-test.false c.loop-j.invariant.2

@@ -4,19 +4,11 @@ use Rattle.machine.specs.Layout.{laid, words}
 use Rattle.machine.proofs.frame.Laid.{start_words, turn_words, end_words, two_words}
 use Rattle.machine.proofs.frame.load.Goals as goal
 
--- NO NEED same-length
--- same_length : tie.Need-same-length invariant_loop decreases_loop
--- same_length c = simp length-set
-
 pub returns-then-k-eq2 : goal.returns-then-k-eq2
 returns-then-k-eq2 c = two_words _ _ _ _ _ c.if-k-eq2.true
 
 pub loop-j-preserved : goal.loop-j-preserved
 loop-j-preserved c = (omega arith, simp length-set c.loop-j.invariant.1, turn_words _ _ _ _ _ _ _ _ c.loop-j-test.true refl c.loop-j.invariant.2)
-
--- NO NEED same-length-2
--- same_length_2 : tie.Need-same-length-2 invariant_loop decreases_loop
--- same_length_2 c = c.before.loop.invariant.1
 
 pub returns : goal.returns
 returns c = end_words _ _ _ _ _ _ _ c.loop-j-test.false c.loop-j.invariant.2

@@ -7,12 +7,12 @@ use Rattle.machine.proofs.start.bump_to.Goals as goal
 
 pub returns-then-tail-ge-CELLS : goal.returns-then-tail-ge-CELLS
 unfolding bump_to counted pick
-returns-then-tail-ge-CELLS c = (simp (c.wrapping_add_u32-n.ensures, eq-eqb _ _ (sym c.wrapping_add_u32-n.ensures ∙ c.if-n-goal.true), le-leb _ _ c.if-tail-ge-CELLS.true), omega arith, wiped_set c.args.work.now (c.args.base + c.args.c) _ (omega arith))
+returns-then-tail-ge-CELLS c = (simp (c.wrapping_add_u32-n.ensures.value, eq-eqb _ _ (sym c.wrapping_add_u32-n.ensures.value ∙ c.if-n-goal.true), le-leb _ _ c.if-tail-ge-CELLS.true), omega arith, wiped_set c.args.work.now (c.args.base + c.args.c) _ (omega arith))
 
 pub returns-then-n-goal : goal.returns-then-n-goal
 unfolding bump_to counted pick
-returns-then-n-goal c = (simp (c.wrapping_add_u32-n.ensures, eq-eqb _ _ (sym c.wrapping_add_u32-n.ensures ∙ c.if-n-goal.true), lt-leb _ _ c.if-tail-ge-CELLS.false), omega arith, wiped_set _ (c.args.base + 1024 + c.args.tail) _ (omega arith) ∙ wiped_set c.args.work.now (c.args.base + c.args.c) _ (omega arith))
+returns-then-n-goal c = (simp (c.wrapping_add_u32-n.ensures.value, eq-eqb _ _ (sym c.wrapping_add_u32-n.ensures.value ∙ c.if-n-goal.true), lt-leb _ _ c.if-tail-ge-CELLS.false), omega arith, wiped_set _ (c.args.base + 1024 + c.args.tail) _ (omega arith) ∙ wiped_set c.args.work.now (c.args.base + c.args.c) _ (omega arith))
 
 pub returns : goal.returns
 unfolding bump_to counted pick
-returns c = (simp (c.wrapping_add_u32-n.ensures, ne_eqb _ _ (λ e. c.if-n-goal.false (c.wrapping_add_u32-n.ensures ∙ e))), omega arith, wiped_set c.args.work.now (c.args.base + c.args.c) _ (omega arith))
+returns c = (simp (c.wrapping_add_u32-n.ensures.value, ne_eqb _ _ (λ e. c.if-n-goal.false (c.wrapping_add_u32-n.ensures.value ∙ e))), omega arith, wiped_set c.args.work.now (c.args.base + c.args.c) _ (omega arith))

@@ -9,10 +9,6 @@ pub returns-then-store-base : goal.returns-then-store-base
 unfolding cell_fine pick
 returns-then-store-base c = simp (lt-ltb _ _ c.if-store-base.true)
 
--- NO NEED overflow-cast-con
--- cast-con : tie.Need-overflow-cast-con
--- cast-con c = omega (arith, c.shared-slice-known2.given (5 * c.before.before.before.args.c))
-
 pub returns-then-con-ge-CONSTRUCTORS : goal.returns-then-con-ge-CONSTRUCTORS
 unfolding cell_fine pick
 returns-then-con-ge-CONSTRUCTORS c = simp (le-ltb _ _ c.if-store-base.false, le-leb _ _ c.if-con-ge-CONSTRUCTORS.true)

@@ -9,6 +9,3 @@ loop-i-init c = (omega arith, refl, cleared_none c.args.base c.args.work.now)
 pub loop-i-preserved : goal.loop-i-preserved
 loop-i-preserved c = let p = c.loop-i.invariant in (omega arith, simp length-set p.1, ap (λ l. set l (c.args.base + c.loop-i.i) 0) p.2 ∙ sym (cleared_more c.args.base c.loop-i.i c.args.work.now))
 
--- NO NEED same-length
--- same_length : tie.Need-same-length invariant_loop decreases_loop
--- same_length c = c.before.loop.invariant.1

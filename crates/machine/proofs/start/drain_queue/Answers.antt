@@ -6,20 +6,8 @@ use Rattle.machine.proofs.start.Turns.{drain_turn, drain_stay, drain_none, fine_
 use Rattle.machine.proofs.start.Goes.{went_bad, went_on}
 use Rattle.machine.proofs.start.drain_queue.Goals as goal
 
--- NO NEED same-length
--- same_length : tie.Need-same-length invariant_loop decreases_loop
--- same_length c = c.before.before.loop.invariant.2
-
 pub returns-then-t-h : goal.returns-then-t-h
 returns-then-t-h c = went_on _ _ _ _ _ c.loop-n.invariant.3 (c.loop-n.invariant.5 ∙ fine_stay c.args.codes.now c.args.store.now c.args.base _ _ (area c.loop-n.work c.loop-n.t) c.if-t-h.true) (sym (c.loop-n.invariant.4 ∙ drain_stay c.args.codes.now c.args.store.now c.args.base _ _ (area c.loop-n.work c.loop-n.t) c.if-t-h.true)) (omega arith)
-
--- NO NEED overflow-cast-c
--- cast_c : tie.Need-overflow-cast-c invariant_loop decreases_loop
--- cast_c c = omega (arith, c.slice-known2.given (c.before.before.before.before.before.before.args.base + 1024 + (c.before.before.before.before.before.before.args.head + c.before.before.before.loop.n)))
-
--- NO NEED same-length-2
--- same_length_2 : tie.Need-same-length-2 invariant_loop decreases_loop
--- same_length_2 c = c.before.before.before.expand.auto.1.1.0 ∙ c.before.before.before.before.before.before.before.before.loop.invariant.2
 
 pub returns-then-t-eq-BAD : goal.returns-then-t-eq-BAD
 returns-then-t-eq-BAD c = went_bad _ _ _ _ (c.expand-t.ensures.same ∙ c.loop-n.invariant.3) (c.loop-n.invariant.5 ∙ fine_out c.args.codes.now c.args.store.now c.args.base (1024 - c.loop-n.n) (c.args.head + c.loop-n.n) (area c.loop-n.work c.loop-n.t) (omega arith) c.if-t-h.false (c.expand-t.ensures.out c.if-t-eq-BAD.true))
@@ -36,15 +24,11 @@ loop-n-preserved c =
     let k : hd + lp.n + 1 ≡ hd + (lp.n + 1) = omega arith in (
       omega arith,
       o.2,
-      c.expand-t.auto.1.1.0 ∙ lp.invariant.2,
+      c.expand-t.auto.work ∙ lp.invariant.2,
       c.expand-t.ensures.same ∙ lp.invariant.3,
       lp.invariant.4 ∙ drain_turn f st b (1024 - lp.n) (hd + lp.n) (area lp.work lp.t) (omega arith) c.if-t-h.false ∙ rw (e, k) (ap (drain_at f st b (1024 - (lp.n + 1)) (hd + (lp.n + 1))) (sym o.1)),
       lp.invariant.5 ∙ fine_turn f st b (1024 - lp.n) (hd + lp.n) (area lp.work lp.t) (omega arith) c.if-t-h.false o.0 ∙ rw (e, k) (ap (drain_fine f st b (1024 - (lp.n + 1)) (hd + (lp.n + 1))) (sym o.1)),
     )
-
--- NO NEED same-length-3
--- same_length_3 : tie.Need-same-length-3 invariant_loop decreases_loop
--- same_length_3 c = c.before.loop.invariant.2
 
 pub returns : goal.returns
 returns c =

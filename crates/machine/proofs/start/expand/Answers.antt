@@ -11,10 +11,6 @@ pub returns-then-store-at : goal.returns-then-store-at
 unfolding inside_fine expand_at pick
 returns-then-store-at c = went_on _ _ _ _ _ refl (simp (lt-ltb _ _ c.if-store-at.true)) (simp (lt-ltb _ _ c.if-store-at.true)) (omega arith)
 
--- NO NEED overflow-cast-con
--- cast-con : tie.Need-overflow-cast-con
--- cast-con c = omega (arith, c.shared-slice-known2.given (5 * c.before.before.before.before.args.c))
-
 pub returns-then-con-ge-CONSTRUCTORS : goal.returns-then-con-ge-CONSTRUCTORS
 unfolding inside_fine expand_at pick
 returns-then-con-ge-CONSTRUCTORS c = went_on _ _ _ _ _ refl (simp (le-ltb _ _ c.if-store-at.false, le-leb _ _ c.if-con-ge-CONSTRUCTORS.true)) (simp (le-ltb _ _ c.if-store-at.false, le-leb _ _ c.if-con-ge-CONSTRUCTORS.true)) (omega arith)

@@ -7,10 +7,6 @@ use Rattle.machine.proofs.start.Turns.{all_in, all_out, all_none, args_turn, arg
 use Rattle.machine.proofs.start.Goes.{went_bad, went_on}
 use Rattle.machine.proofs.start.name_args.Goals as goal
 
--- NO NEED same-length
--- same_length : tie.Need-same-length invariant_loop decreases_loop
--- same_length c = c.before.before.before.name-arg.auto.1.1.1.1.1.0 ∙ c.before.before.before.before.before.before.loop.invariant.2
-
 pub returns-then-t-eq-BAD : goal.returns-then-t-eq-BAD
 returns-then-t-eq-BAD c =
     let s = c.args in
@@ -26,15 +22,11 @@ loop-i-preserved c =
     let o = c.name_arg-t.ensures.on c.if-t-eq-BAD.false in (
       omega arith,
       o.2,
-      c.name_arg-t.auto.1.1.1.1.1.0 ∙ lp.invariant.2,
+      c.name_arg-t.auto.work ∙ lp.invariant.2,
       c.name_arg-t.ensures.same ∙ lp.invariant.3,
       lp.invariant.4 ∙ args_turn s.file.now s.decl.now s.codes.now s.store.now s.base s.args.now s.mode _ _ lp.i (area lp.work lp.t) _ e o.1,
       lp.invariant.5 ∙ all_in (λ k. tree_arg s.file.now s.decl.now s.codes.now s.store.now s.args.now s.mode k) _ _ lp.i e o.0,
     )
-
--- NO NEED same-length-2
--- same_length_2 : tie.Need-same-length-2 invariant_loop decreases_loop
--- same_length_2 c = c.before.loop.invariant.2
 
 pub returns : goal.returns
 returns c =

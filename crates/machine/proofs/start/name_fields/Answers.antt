@@ -8,10 +8,6 @@ use Rattle.machine.proofs.start.Fields.{power, bits_none, bits_less, trees_none}
 use Rattle.machine.proofs.start.Goes.{went_bad, went_on}
 use Rattle.machine.proofs.start.name_fields.Goals as goal
 
--- NO NEED same-length
--- same_length : tie.Need-same-length invariant_loop decreases_loop
--- same_length c = c.before.before.before.name-field.auto.1.1.0 ∙ c.before.before.before.before.before.before.before.loop.invariant.1
-
 pub returns-then-t-eq-BAD : goal.returns-then-t-eq-BAD
 returns-then-t-eq-BAD c =
     let some = bits_none (c.args.at + 4 - c.loop-rest.p) c.loop-rest.rest c.loop-rest.invariant.5 c.loop-rest-test.true in
@@ -24,7 +20,7 @@ loop-rest-preserved c =
     let e : c.args.at + 4 - c.loop-rest.p ≡ suc (c.args.at + 4 - (c.loop-rest.p + 1)) = omega arith in
     let o = c.name_field-t.ensures.on c.if-t-eq-BAD.false in (
       o.2,
-      c.name_field-t.auto.1.1.0 ∙ c.loop-rest.invariant.1,
+      c.name_field-t.auto.work ∙ c.loop-rest.invariant.1,
       c.name_field-t.ensures.same ∙ c.loop-rest.invariant.2,
       omega arith,
       omega arith,
@@ -32,10 +28,6 @@ loop-rest-preserved c =
       c.loop-rest.invariant.6 ∙ fields_more c.args.codes.now c.args.store.now c.args.base _ _ c.loop-rest.rest c.loop-rest.p (area c.loop-rest.work c.loop-rest.t) _ e o.1,
       c.loop-rest.invariant.7 ∙ trees_more c.args.codes.now c.args.store.now _ _ c.loop-rest.rest c.loop-rest.p e o.0,
     )
-
--- NO NEED same-length-2
--- same_length_2 : tie.Need-same-length-2 invariant_loop decreases_loop
--- same_length_2 c = c.before.loop.invariant.1
 
 pub returns : goal.returns
 returns c =

@@ -10,13 +10,13 @@ pub returns-then-not-f : goal.returns-then-not-f
 returns-then-not-f c =
     let some = bits_none (c.args.at + 4 - c.loop-rest.p) c.loop-rest.rest c.loop-rest.invariant.2 c.loop-rest-test.true in
     let e : c.args.at + 4 - c.loop-rest.p ≡ suc (c.args.at + 4 - (c.loop-rest.p + 1)) = omega arith in
-    sym (c.loop-rest.invariant.3 ∙ numbers_out c.args.store.now _ _ c.loop-rest.rest c.loop-rest.p e (sym c.number_fine-f.ensures ∙ not-true _ c.if-not-f.true))
+    sym (c.loop-rest.invariant.3 ∙ numbers_out c.args.store.now _ _ c.loop-rest.rest c.loop-rest.p e (sym c.number_fine-f.ensures ∙ c.if-not-f.true))
 
 pub loop-rest-preserved : goal.loop-rest-preserved
 loop-rest-preserved c =
     let some = bits_none (c.args.at + 4 - c.loop-rest.p) c.loop-rest.rest c.loop-rest.invariant.2 c.loop-rest-test.true in
     let e : c.args.at + 4 - c.loop-rest.p ≡ suc (c.args.at + 4 - (c.loop-rest.p + 1)) = omega arith in
-    (omega arith, omega arith, bits_less _ _ c.loop-rest.rest e c.loop-rest.invariant.2, c.loop-rest.invariant.3 ∙ numbers_more c.args.store.now _ _ c.loop-rest.rest c.loop-rest.p e (sym c.number_fine-f.ensures ∙ not-false _ c.if-not-f.false))
+    (omega arith, omega arith, bits_less _ _ c.loop-rest.rest e c.loop-rest.invariant.2, c.loop-rest.invariant.3 ∙ numbers_more c.args.store.now _ _ c.loop-rest.rest c.loop-rest.p e (sym c.number_fine-f.ensures ∙ c.if-not-f.false))
 
 pub returns : goal.returns
 returns c =

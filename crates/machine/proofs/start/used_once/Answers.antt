@@ -7,10 +7,6 @@ use Rattle.machine.specs.StartArea.{used_once}
 use Rattle.machine.proofs.start.Turns.{all_in, all_out, all_none}
 use Rattle.machine.proofs.start.used_once.Goals as goal
 
--- NO NEED overflow-cast-c
--- cast_c : tie.Need-overflow-cast-c invariant_loop decreases_loop
--- cast_c c = omega (arith, c.shared-slice-known.given (1024 + c.before.before.loop.i))
-
 pub returns-then-c-ge-CELLS : goal.returns-then-c-ge-CELLS
 unfolding used_once pick
 returns-then-c-ge-CELLS c = let e : c.args.tail - c.loop-i.i ≡ suc (c.args.tail - (c.loop-i.i + 1)) = omega arith in sym (c.loop-i.invariant.1 ∙ all_out (λ k. used_once c.args.work.now (get_or c.args.work.now (1024 + k) 0)) _ _ c.loop-i.i e (simp (le-leb _ _ c.if-c-ge-CELLS.true)))

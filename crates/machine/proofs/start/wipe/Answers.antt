@@ -11,6 +11,3 @@ pub loop-i-preserved : goal.loop-i-preserved
 unfolding wiped
 loop-i-preserved c = let p = c.loop-i.invariant in (omega arith, omega arith, simp length-set p.2, ap (λ l. set l c.loop-i.i 0) p.3 ∙ fill_more c.loop-i.i 0 c.args.work.now (omega arith))
 
--- NO NEED same-length
--- same_length : tie.Need-same-length invariant_loop decreases_loop
--- same_length c = c.before.loop.invariant.2

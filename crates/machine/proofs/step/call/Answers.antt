@@ -31,10 +31,6 @@ work_handed c =
     (λ w. w.5 ∙ w.2.ensures)
     c.if-n-eq1.branch
 
--- NO NEED same-length
--- same_length : tie.Need-same-length
--- same_length c = ap length (work_handed c.before.before) ∙ laid_length _ _ _ ∙ simp length-set
-
 pub returns : goal.returns
 unfolding cl_of pick
 returns c = rw (lt-leb _ _ c.if-depth.false, c.body.ensures, c.larger.ensures, work_handed c.before.before, c.params-n.ensures.0, c.byte-g.ensures.0, gathered_above c.args.file.now c.args.work.now (c.args.s.frame.depth * 32) (c.args.s.frame.at + 3) (params_in c.args.decl.now (byte_at c.args.file.now (c.args.s.frame.at + 2))) (1024 + c.args.s.frame.depth * 2) (c.args.s.frame.at + 3 + (params_in c.args.decl.now (byte_at c.args.file.now (c.args.s.frame.at + 2)))) (1024 + c.args.s.frame.depth * 2 + 1) c.args.s.frame.bound (omega arith) (omega arith) c.requires.7)

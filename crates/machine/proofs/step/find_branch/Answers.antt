@@ -14,10 +14,6 @@ byte-requires c = let n = all_next _ _ c.loop-left.invariant.0.1 (λ z. omega (a
 pub overflow_add-result : goal.overflow_add-result
 overflow_add-result c = let n = all_next _ _ c.loop-left.invariant.0.1 (λ z. omega (arith, c.loop-left-test.true, z)) in omega (arith, skips_safe _ _ n.1)
 
--- NO NEED same-length
--- same_length : tie.Need-same-length invariant_loop decreases_loop
--- same_length c = c.before.before.before.loop.invariant.2.long
-
 pub returns-then-byte-con : goal.returns-then-byte-con
 returns-then-byte-con c = (c.loop-left.invariant.1 _ (found_here _ _ c.loop-left-test.true c.byte.ensures.0 c.if-byte-con.true), c.loop-left.invariant.2)
 
@@ -29,10 +25,6 @@ end_of-p-requires c = let n = all_next _ _ c.loop-left.invariant.0.1 (λ z. omeg
 
 pub loop-left-preserved : goal.loop-left-preserved
 loop-left-preserved c = let n = all_next _ _ c.loop-left.invariant.0.1 (λ z. omega (arith, c.loop-left-test.true, z)) in ((c.loop-left.invariant.0.0, all_from _ _ n.1 c.end_of_lem.ensures.0 n.2, c.loop-left.invariant.0.2), λ r f. c.loop-left.invariant.1 r (found_later _ _ c.loop-left-test.true c.byte.ensures.0 c.if-byte-con.false c.end_of_lem.ensures.0 f), keeps_on _ _ c.loop-left.invariant.2 c.end_of_lem.ensures.1)
-
--- NO NEED same-length-2
--- same_length_2 : tie.Need-same-length-2 invariant_loop decreases_loop
--- same_length_2 c = c.before.loop.invariant.2.long
 
 pub returns : goal.returns
 returns c = (c.loop-left.invariant.1 0 (Found.none (omega arith) refl), c.loop-left.invariant.2)

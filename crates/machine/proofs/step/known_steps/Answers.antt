@@ -12,27 +12,11 @@ loop-left-init c = (omega arith, refl, refl, reached_start _ _ _ _ _, refl)
 pub known_step-next-requires : goal.known_step-next-requires
 known_step-next-requires c = (c.loop-left.invariant.3 (fit_from c.go_to-cur.ensures c.requires)).0
 
--- NO NEED same-length
--- same_length : tie.Need-same-length invariant_loop decreases_loop
--- same_length c = c.before.before.before.before.before.before.Known-step.auto.1.1.0 ∙ c.before.before.before.before.before.before.before.before.before.before.loop.invariant.1
-
--- NO NEED same-length-2
--- same_length_2 : tie.Need-same-length-2 invariant_loop decreases_loop
--- same_length_2 c = c.before.before.before.before.before.before.Known-step.auto.1.1.1.0 ∙ c.before.before.before.before.before.before.before.before.before.before.loop.invariant.2
-
 pub returns-then-next-ne-GOING : goal.returns-then-next-ne-GOING
 returns-then-next-ne-GOING c = let s = c.known_step-next.ensures.stays c.if-next-ne-GOING.true in (c.loop-left.invariant.0, reached_from c.go_to-cur.ensures c.loop-left.invariant.0 (reached_same c.args.limit c.loop-left.left s.0 s.1 c.loop-left.invariant.3), ap (λ l. drop 4096 l) s.1 ∙ c.loop-left.invariant.4)
 
 pub loop-left-preserved : goal.loop-left-preserved
 loop-left-preserved c = let s = c.known_step-next.ensures.does c.if-next-ne-GOING.false in (omega (arith, c.loop-left.invariant.0), c.known_step-next.auto.1.1.0 ∙ c.loop-left.invariant.1, c.known_step-next.auto.1.1.1.0 ∙ c.loop-left.invariant.2, reached_next c.loop-left-test.true c.loop-left.invariant.0 c.loop-left.invariant.3 s c.if-next-ne-GOING.false, step_behind (c.loop-left.invariant.3 (fit_from c.go_to-cur.ensures c.requires)).0 s ∙ c.loop-left.invariant.4)
-
--- NO NEED same-length-3
--- same_length_3 : tie.Need-same-length-3 invariant_loop decreases_loop
--- same_length_3 c = c.before.loop.invariant.1
-
--- NO NEED same-length-4
--- same_length_4 : tie.Need-same-length-4 invariant_loop decreases_loop
--- same_length_4 c = c.before.loop.invariant.2
 
 pub returns : goal.returns
 returns c = (c.loop-left.invariant.0, reached_from c.go_to-cur.ensures c.loop-left.invariant.0 c.loop-left.invariant.3, c.loop-left.invariant.4)

@@ -4,10 +4,6 @@ use Rattle.machine.specs.Layout.{mk_of, mk_store}
 use Rattle.standing.specs.Bytes.{arity_in}
 use Rattle.machine.proofs.step.make.Goals as goal
 
--- NO NEED same-length
--- same_length : tie.Need-same-length
--- same_length c = c.before.before.before.before.before.before.fill.auto.1.0 ∙ simp length-set
-
 pub returns : goal.returns
 unfolding mk_of mk_store
 returns c = (rw (c.fill.ensures, c.arity-k.ensures.0, c.byte-con.ensures.0, c.slot-w.ensures), rw (c.bind.ensures, c.arity-k.ensures.0, c.byte-con.ensures.0, c.slot-w.ensures))
