@@ -24,7 +24,7 @@ pub end_of-p-requires : goal.end_of-p-requires
 end_of-p-requires c = let n = all_next _ _ c.loop-left.invariant.0.1 (λ z. omega (arith, c.loop-left-test.true, z)) in ((c.loop-left.invariant.2.known, c.requires.0.1, omega (arith, c.loop-left.invariant.2.long, c.requires.0.2)), omega arith, (n.0, n.1, omega (arith, skips_all_past _ _ n.2, c.loop-left.invariant.0.2)))
 
 pub loop-left-preserved : goal.loop-left-preserved
-loop-left-preserved c = let n = all_next _ _ c.loop-left.invariant.0.1 (λ z. omega (arith, c.loop-left-test.true, z)) in ((c.loop-left.invariant.0.0, all_from _ _ n.1 c.end_of_lem.ensures.0 n.2, c.loop-left.invariant.0.2), λ r f. c.loop-left.invariant.1 r (found_later _ _ c.loop-left-test.true c.byte.ensures.0 c.if-byte-con.false c.end_of_lem.ensures.0 f), keeps_on _ _ c.loop-left.invariant.2 c.end_of_lem.ensures.1)
+loop-left-preserved c = let n = all_next _ _ c.loop-left.invariant.0.1 (λ z. omega (arith, c.loop-left-test.true, z)) in ((c.loop-left.invariant.0.0, all_from _ _ n.1 c.end_of-p.ensures.0 n.2, c.loop-left.invariant.0.2), λ r f. c.loop-left.invariant.1 r (found_later _ _ c.loop-left-test.true c.byte.ensures.0 c.if-byte-con.false c.end_of-p.ensures.0 f), keeps_on _ _ c.loop-left.invariant.2 c.end_of-p.ensures.1)
 
 pub returns : goal.returns
 returns c = (c.loop-left.invariant.1 0 (Found.none (omega arith) refl), c.loop-left.invariant.2)

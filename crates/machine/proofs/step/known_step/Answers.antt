@@ -1,5 +1,5 @@
 -- The proof of `known_step`. Assumes nothing.
-use Rattle.std.proofs.Common.{refl, ap, ◌∙◌, arith, rules}
+use Rattle.std.proofs.Common.{◌<◌, ◌≤◌, refl, ap, ◌∙◌, arith, rules}
 use Rattle.meaning.specs.Marks.{Mark}
 use Rattle.standing.specs.Bytes.{mark_at}
 use Rattle.machine.specs.Layout.{nu_of, at_of, tl_of, mk_of}
@@ -36,7 +36,10 @@ pub known_choose-requires : goal.known_choose-requires
 known_choose-requires c = fit_needs c.requires Mark.IF (mark_is (mark_at c.args.file.now c.args.s.frame.at) c.node_mark-m.ensures c.in-14.is)
 
 pub known_take-requires : goal.known_take-requires
-known_take-requires c = rw c.credit.ensures (fit_opens c.requires c.node_mark-m.ensures (past_TL c.if-m-lt4.false c.in_default-1.rest.0.0.0.0.0.0.0.1 c.in_default-1.rest.0.0.0.0.0.0.1 c.in_default-1.rest.0.0.0.0.0.1 c.in_default-1.rest.0.0.0.0.1 c.in_default-1.rest.0.0.0.1) c.in-9.if-m-lt11-own.true)
+known_take-requires c =
+    let low : 9 ≤ c.node_mark-m.result = omega arith in
+    let high : c.node_mark-m.result < 11 = omega arith in
+    rw c.credit.ensures (fit_opens c.requires c.node_mark-m.ensures low high)
 
 pub returns-in-4 : goal.returns-in-4
 returns-in-4 c = tried_of Mark.GV (mark_is (mark_at c.args.file.now c.args.s.frame.at) c.node_mark-m.ensures c.in-4.is) (refl, c.give.ensures) (λ z. (refl, ap (λ x. x.work) c.give.ensures ∙ gv_still _ _ (λ n. z (ap (λ x. x.state.number) c.give.ensures ∙ n))))
@@ -67,4 +70,7 @@ pub returns-in-14 : goal.returns-in-14
 returns-in-14 c = record { does = λ n. steps_of Mark.IF (mark_is (mark_at c.args.file.now c.args.s.frame.at) c.node_mark-m.ensures c.in-14.is) (refl, c.known_choose.ensures n); stays = λ z. (refl, refl) }
 
 pub returns-in-9 : goal.returns-in-9
-returns-in-9 c = record { does = λ n. opens_of c.node_mark-m.ensures (past_TL c.if-m-lt4.false c.in_default-1.rest.0.0.0.0.0.0.0.1 c.in_default-1.rest.0.0.0.0.0.0.1 c.in_default-1.rest.0.0.0.0.0.1 c.in_default-1.rest.0.0.0.0.1 c.in_default-1.rest.0.0.0.1) c.in-9.if-m-lt11-own.true (refl, rw c.credit.ensures at (c.known_take.ensures.0 n)); stays = λ z. (refl, c.known_take.ensures.1 z) }
+returns-in-9 c =
+    let low : 9 ≤ c.node_mark-m.result = omega arith in
+    let high : c.node_mark-m.result < 11 = omega arith in
+    record { does = λ n. opens_of c.node_mark-m.ensures low high (refl, rw c.credit.ensures at (c.known_take.ensures.0 n)); stays = λ z. (refl, c.known_take.ensures.1 z) }

@@ -1,5 +1,5 @@
 -- The proof of `step`. Assumes nothing.
-use Rattle.std.proofs.Common.{refl, arith, rules}
+use Rattle.std.proofs.Common.{◌<◌, ◌≤◌, refl, arith, rules}
 use Rattle.meaning.specs.Marks.{Mark, mark_of, find_mark}
 use Rattle.standing.specs.Bytes.{mark_at}
 use Rattle.machine.proofs.step.Marked.{mark_is, past_TL, no_node}
@@ -34,7 +34,10 @@ pub choose-requires : goal.choose-requires
 choose-requires c = fit_needs c.requires Mark.IF (mark_is (mark_at c.args.file.now c.args.s.frame.at) c.mark-m.ensures c.in-14.is)
 
 pub take_branch-requires : goal.take_branch-requires
-take_branch-requires c = rw c.credit.ensures (fit_opens c.requires c.mark-m.ensures (past_TL c.if-m-lt4.false c.in_default-1.rest.0.0.0.0.0.0.0.1 c.in_default-1.rest.0.0.0.0.0.0.1 c.in_default-1.rest.0.0.0.0.0.1 c.in_default-1.rest.0.0.0.0.1 c.in_default-1.rest.0.0.0.1) c.in-9.if-m-lt11-own.true)
+take_branch-requires c =
+    let low : 9 ≤ c.mark-m.result = omega arith in
+    let high : c.mark-m.result < 11 = omega arith in
+    rw c.credit.ensures (fit_opens c.requires c.mark-m.ensures low high)
 
 pub returns-in-4 : goal.returns-in-4
 returns-in-4 c = steps_of Mark.GV (mark_is (mark_at c.args.file.now c.args.s.frame.at) c.mark-m.ensures c.in-4.is) (refl, c.give.ensures)
@@ -61,12 +64,19 @@ pub returns-in-14 : goal.returns-in-14
 returns-in-14 c = steps_of Mark.IF (mark_is (mark_at c.args.file.now c.args.s.frame.at) c.mark-m.ensures c.in-14.is) (refl, c.choose.ensures)
 
 pub returns-in-9 : goal.returns-in-9
-returns-in-9 c = opens_of c.mark-m.ensures (past_TL c.if-m-lt4.false c.in_default-1.rest.0.0.0.0.0.0.0.1 c.in_default-1.rest.0.0.0.0.0.0.1 c.in_default-1.rest.0.0.0.0.0.1 c.in_default-1.rest.0.0.0.0.1 c.in_default-1.rest.0.0.0.1) c.in-9.if-m-lt11-own.true (refl, rw c.credit.ensures at c.take_branch.ensures)
+returns-in-9 c =
+    let low : 9 ≤ c.mark-m.result = omega arith in
+    let high : c.mark-m.result < 11 = omega arith in
+    opens_of c.mark-m.ensures low high (refl, rw c.credit.ensures at c.take_branch.ensures)
 
 pub returns-in_default : goal.returns-in_default
 unfolding find_mark
-returns-in_default c = steps_of (mark_of (mark_at c.args.file.now c.args.s.frame.at)) refl (no_node (mark_of (mark_at c.args.file.now c.args.s.frame.at)) _ _ _ _ c.mark-m.ensures c.in_default-1.rest.0.0.0.0.0.0.0.1 c.in_default-1.rest.0.0.0.0.0.0.1 c.in_default-1.rest.0.0.0.0.0.1 c.in_default-1.rest.0.0.0.0.1 c.in_default-1.rest.0.0.0.1 (λ e. omega (arith, c.in_default.if-m-lt4-own.true, e)) (λ e. omega (arith, c.in_default.if-m-lt4-own.true, e)) c.in_default-1.rest.0.0.1 c.in_default-1.rest.0.1 c.in_default-1.rest.1)
+returns-in_default c =
+    let w = mark_of (mark_at c.args.file.now c.args.s.frame.at) in
+    steps_of w refl (no_node w _ _ _ _ c.mark-m.ensures (λ e. omega arith) (λ e. omega arith) (λ e. omega arith) (λ e. omega arith) (λ e. omega arith) (λ e. omega arith) (λ e. omega arith) (λ e. omega arith) (λ e. omega arith) (λ e. omega arith))
 
 pub returns-in_default-2 : goal.returns-in_default-2
 unfolding find_mark
-returns-in_default-2 c = steps_of (mark_of (mark_at c.args.file.now c.args.s.frame.at)) refl (no_node (mark_of (mark_at c.args.file.now c.args.s.frame.at)) _ _ _ _ c.mark-m.ensures c.in_default-1.rest.0.0.0.0.0.0.0.1 c.in_default-1.rest.0.0.0.0.0.0.1 c.in_default-1.rest.0.0.0.0.0.1 c.in_default-1.rest.0.0.0.0.1 c.in_default-1.rest.0.0.0.1 (λ e. omega (arith, c.in_default.if-m-lt11-own.false, e)) (λ e. omega (arith, c.in_default.if-m-lt11-own.false, e)) c.in_default-1.rest.0.0.1 c.in_default-1.rest.0.1 c.in_default-1.rest.1)
+returns-in_default-2 c =
+    let w = mark_of (mark_at c.args.file.now c.args.s.frame.at) in
+    steps_of w refl (no_node w _ _ _ _ c.mark-m.ensures (λ e. omega arith) (λ e. omega arith) (λ e. omega arith) (λ e. omega arith) (λ e. omega arith) (λ e. omega arith) (λ e. omega arith) (λ e. omega arith) (λ e. omega arith) (λ e. omega arith))
