@@ -1,5 +1,4 @@
 -- The proof of `begin`. Assumes nothing.
-use Rattle.std.proofs.Common.{rules}
 use Rattle.machine.proofs.Running.{begin_refused, begin_begun, begin_ran}
 use Rattle.machine.proofs.begin.Goals as goal
 

@@ -1,4 +1,4 @@
-use Rattle.std.proofs.Common.{ne_eqb}
+use Rattle.std.proofs.Common.{arith, ne_eqb}
 use Rattle.meaning.specs.Choice.{pick}
 use Rattle.meaning.specs.Answers.{end_of}
 use Rattle.machine.proofs.end_of.Goals as goal
@@ -25,4 +25,4 @@ returns-in-34 c = simp c.in-34.is
 
 pub returns-in_default : goal.returns-in_default
 unfolding end_of pick
-returns-in_default c = simp (ne_eqb _ _ c.in_default.in_default-own.rest.0.0.0.0.1, ne_eqb _ _ c.in_default.in_default-own.rest.0.0.0.1, ne_eqb _ _ c.in_default.in_default-own.rest.0.0.1, ne_eqb _ _ c.in_default.in_default-own.rest.0.1, ne_eqb _ _ c.in_default.in_default-own.rest.1)
+returns-in_default c = simp (ne_eqb c.args.number 0 (λ e. omega arith), ne_eqb c.args.number 31 (λ e. omega arith), ne_eqb c.args.number 32 (λ e. omega arith), ne_eqb c.args.number 33 (λ e. omega arith), ne_eqb c.args.number 34 (λ e. omega arith))

@@ -2,7 +2,7 @@
 use Rattle.std.proofs.Common.{◌≡◌, ℕ, ◌≤◌, List, [], ◌∷◌, map, length, drop, sym, refl, ap, ◌∙◌, subst, arith}
 use Rattle.meaning.specs.Syntax.{Mode}
 use Rattle.meaning.specs.Ownership.{bind, kind_of}
-use Rattle.meaning.specs.Machine.{Held, held, state, function_of, body_of, run, Answer}
+use Rattle.meaning.specs.Machine.{Held, held, function_of, body_of, run, Answer}
 use Rattle.meaning.specs.Start.{begin}
 use Rattle.meaning.specs.InPlace.{begins}
 use Rattle.meaning.specs.Decode.{plain_args}

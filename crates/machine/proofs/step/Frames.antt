@@ -2,7 +2,7 @@
 use Rattle.std.proofs.Common.{◌≡◌, ℕ, suc, ◌+◌, ◌-◌, ◌*◌, ◌<◌, ◌≤◌, max, Bool, true, false, ltb, ◌⊎◌, List, [], ◌∷◌, ◌++◌, map, length, get_or, set, sym, refl, ap, ◌∙◌, subst, inl, inr, arith, length-set, get_or-set_other, get_or-set_same, ltb-false, ltb-true, ne_eqb, le-leb}
 use mathlib.Core.Option.{Option, none, some}
 use borrow.Author.Tests.{lt-leb}
-use Rattle.machine.specs.Layout.{Top, top, bound, laid, gathered, words, slot_in, tl_of, cl_of, mk_of, mk_store, con_of, op_of, opened_of}
+use Rattle.machine.specs.Layout.{Top, top, laid, gathered, words, slot_in, tl_of, cl_of, mk_of, mk_store, con_of, op_of, opened_of}
 use Rattle.machine.specs.Represents.{Agrees, Waits, Saved, Represents, After}
 use Rattle.machine.specs.Steps.{StepsAt, named}
 use Rattle.machine.proofs.frame.Laid.{words_length, laid_length, laid_before, laid_after, laid_at}

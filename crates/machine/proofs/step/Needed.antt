@@ -13,7 +13,7 @@ use Rattle.meaning.specs.Syntax as S
 use Rattle.meaning.specs.Ownership.{Kind, Slots, Want, take, check, pass, done, same_sort}
 use Rattle.meaning.specs.Plain.{Value, place_of}
 use Rattle.meaning.specs.Reading.{credits}
-use Rattle.meaning.specs.Machine.{Held, Frame, Store, held, word, state, cell, fields_of, function_of, credit_cell}
+use Rattle.meaning.specs.Machine.{Held, Frame, Store, held, word, state, fields_of, function_of, credit_cell}
 use Rattle.theory.proofs.Rep.{Holds}
 use Rattle.theory.proofs.Handing.{at_kind}
 use Rattle.theory.proofs.Taking.{take_inv, steps_ok, require_then}

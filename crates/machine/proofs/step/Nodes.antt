@@ -1,7 +1,7 @@
 -- Each node's words stand for the defined step. Assumes nothing.
 use Rattle.std.proofs.Common.{◌≡◌, ℕ, zero, suc, ◌+◌, ◌-◌, ◌*◌, ◌<◌, ◌≤◌, max, false, List, [], ◌∷◌, ◌++◌, length, sym, refl, ap, ◌∙◌, subst, arith, eq-eqb, ne_eqb}
 use mathlib.Core.Option.{Option, none, some}
-use Rattle.machine.specs.Layout.{below, Top, top, going, moved, ended, bound, words, slot_in, nu_of, at_of, ar_of, gv_of}
+use Rattle.machine.specs.Layout.{below, Top, top, going, moved, ended, bound, slot_in, nu_of, at_of, ar_of, gv_of}
 use Rattle.machine.specs.Represents.{Agrees, Represents, After}
 use Rattle.machine.specs.Steps.{StepsAt}
 use Rattle.machine.specs.Skips.{Skips}

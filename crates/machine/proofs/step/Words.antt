@@ -1,7 +1,7 @@
 -- Laws of the words of a work area. Assumes nothing.
 use Rattle.std.proofs.Common.{◌≡◌, ℕ, zero, suc, ◌+◌, ◌-◌, ◌*◌, ◌<◌, ◌≤◌, Bool, true, false, ltb, ◌⊎◌, List, [], ◌∷◌, ◌++◌, map, length, get_or, set, sym, refl, ap, ◌∙◌, subst, inl, inr, arith, length-set, get_or-set_other, get_or-set_same, get_or-append-add, ltb-false, ltb-true}
 use lib.ListN.{get_or-append, get_or-eq_default}
-use Rattle.machine.specs.Layout.{Top, top, bound, laid, gathered, words}
+use Rattle.machine.specs.Layout.{Top, top, bound, laid, gathered}
 use Rattle.machine.specs.Represents.{Agrees, Words, Saved, Represents}
 use Rattle.meaning.specs.Syntax.{Mode, Term, File}
 use Rattle.meaning.specs.Plain.{place_of}

@@ -1,7 +1,6 @@
 -- The proof of `fill`. Assumes nothing.
-use Rattle.std.proofs.Common.{◌≡◌, ◌+◌, ◌-◌, ◌≤◌, length, refl, arith, length-set}
-use Rattle.machine.specs.Layout.{laid, gathered}
-use Rattle.machine.proofs.frame.Laid.{start_gathered, turn_gathered, end_gathered, two_gathered}
+use Rattle.std.proofs.Common.{refl, arith, length-set}
+use Rattle.machine.proofs.frame.Laid.{turn_gathered, end_gathered, two_gathered}
 use Rattle.machine.proofs.frame.fill.Goals as goal
 
 pub returns-then-k-eq2 : goal.returns-then-k-eq2

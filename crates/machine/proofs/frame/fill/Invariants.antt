@@ -1,7 +1,6 @@
 -- The proof of `fill`. Assumes nothing.
-use Rattle.std.proofs.Common.{◌≡◌, ◌+◌, ◌-◌, ◌≤◌, length, refl, arith, length-set}
+use Rattle.std.proofs.Common.{◌≡◌, ◌+◌, ◌-◌, ◌≤◌, length}
 use Rattle.machine.specs.Layout.{laid, gathered}
-use Rattle.machine.proofs.frame.Laid.{start_gathered, turn_gathered, end_gathered, two_gathered}
 use Rattle.machine.proofs.frame.fill.Given as goal
 
 abbrev pub invariant-loop-j : goal.invariant-loop-j
@@ -9,4 +8,3 @@ invariant-loop-j l = (l.j ≤ l.k) × (length l.store ≡ length l.initial.store
 
 abbrev pub decreases-loop-j : goal.decreases-loop-j
 decreases-loop-j l = l.k - l.j
-

@@ -1,7 +1,6 @@
 -- The proof of `gather`. Assumes nothing.
-use Rattle.std.proofs.Common.{◌≡◌, ◌+◌, ◌-◌, ◌≤◌, arith}
-use Rattle.machine.specs.Layout.{laid, gathered}
-use Rattle.machine.proofs.frame.Laid.{start_gathered, turn_gathered, end_gathered}
+use Rattle.std.proofs.Common.{arith}
+use Rattle.machine.proofs.frame.Laid.{turn_gathered, end_gathered}
 use Rattle.machine.proofs.frame.gather.Goals as goal
 
 pub loop-j-preserved : goal.loop-j-preserved

@@ -1,7 +1,6 @@
 -- The proof of `gather`. Assumes nothing.
-use Rattle.std.proofs.Common.{◌≡◌, ◌+◌, ◌-◌, ◌≤◌, arith}
+use Rattle.std.proofs.Common.{◌≡◌, ◌+◌, ◌-◌, ◌≤◌}
 use Rattle.machine.specs.Layout.{laid, gathered}
-use Rattle.machine.proofs.frame.Laid.{start_gathered, turn_gathered, end_gathered}
 use Rattle.machine.proofs.frame.gather.Given as goal
 
 abbrev pub invariant-loop-j : goal.invariant-loop-j
@@ -9,4 +8,3 @@ invariant-loop-j l = (l.j ≤ l.n) × (laid l.initial.out 0 (gathered l.file l.w
 
 abbrev pub decreases-loop-j : goal.decreases-loop-j
 decreases-loop-j l = l.n - l.j
-

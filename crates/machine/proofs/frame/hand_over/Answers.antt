@@ -1,7 +1,6 @@
 -- The proof of `hand_over`. Assumes nothing.
-use Rattle.std.proofs.Common.{◌≡◌, ℕ, ◌+◌, ◌-◌, ◌<◌, ◌≤◌, ◌⊎◌, length, get_or, refl, arith, length-set}
-use Rattle.machine.specs.Layout.{laid, gathered}
-use Rattle.machine.proofs.frame.Laid.{start_gathered, turn_handed, end_gathered}
+use Rattle.std.proofs.Common.{arith, length-set}
+use Rattle.machine.proofs.frame.Laid.{turn_handed, end_gathered}
 use Rattle.machine.proofs.frame.hand_over.Goals as goal
 
 pub loop-j-preserved : goal.loop-j-preserved

@@ -1,7 +1,6 @@
 -- The proof of `hand_over`. Assumes nothing.
-use Rattle.std.proofs.Common.{◌≡◌, ℕ, ◌+◌, ◌-◌, ◌<◌, ◌≤◌, ◌⊎◌, length, get_or, refl, arith, length-set}
+use Rattle.std.proofs.Common.{◌≡◌, ℕ, ◌+◌, ◌-◌, ◌<◌, ◌≤◌, ◌⊎◌, length, get_or}
 use Rattle.machine.specs.Layout.{laid, gathered}
-use Rattle.machine.proofs.frame.Laid.{start_gathered, turn_handed, end_gathered}
 use Rattle.machine.proofs.frame.hand_over.Given as goal
 
 abbrev pub invariant-loop-j : goal.invariant-loop-j
@@ -9,4 +8,3 @@ invariant-loop-j l = (l.j ≤ l.n) × (length l.work ≡ length l.initial.work) 
 
 abbrev pub decreases-loop-j : goal.decreases-loop-j
 decreases-loop-j l = l.n - l.j
-

@@ -1,7 +1,6 @@
 -- The proof of `lay`. Assumes nothing.
-use Rattle.std.proofs.Common.{◌≡◌, ◌+◌, ◌-◌, ◌≤◌, length, refl, arith, length-set}
-use Rattle.machine.specs.Layout.{laid, words}
-use Rattle.machine.proofs.frame.Laid.{start_words, turn_words, end_words}
+use Rattle.std.proofs.Common.{arith, length-set}
+use Rattle.machine.proofs.frame.Laid.{turn_words, end_words}
 use Rattle.machine.proofs.frame.lay.Goals as goal
 
 pub loop-j-preserved : goal.loop-j-preserved

@@ -1,7 +1,6 @@
 -- The proof of `lay`. Assumes nothing.
-use Rattle.std.proofs.Common.{◌≡◌, ◌+◌, ◌-◌, ◌≤◌, length, refl, arith, length-set}
+use Rattle.std.proofs.Common.{◌≡◌, ◌+◌, ◌-◌, ◌≤◌, length}
 use Rattle.machine.specs.Layout.{laid, words}
-use Rattle.machine.proofs.frame.Laid.{start_words, turn_words, end_words}
 use Rattle.machine.proofs.frame.lay.Given as goal
 
 abbrev pub invariant-loop-j : goal.invariant-loop-j
@@ -9,4 +8,3 @@ invariant-loop-j l = (l.j ≤ l.n) × (length l.work ≡ length l.initial.work) 
 
 abbrev pub decreases-loop-j : goal.decreases-loop-j
 decreases-loop-j l = l.n - l.j
-

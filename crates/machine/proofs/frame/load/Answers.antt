@@ -1,7 +1,6 @@
 -- The proof of `load`. Assumes nothing.
-use Rattle.std.proofs.Common.{◌≡◌, ◌+◌, ◌-◌, ◌≤◌, length, refl, arith, length-set}
-use Rattle.machine.specs.Layout.{laid, words}
-use Rattle.machine.proofs.frame.Laid.{start_words, turn_words, end_words, two_words}
+use Rattle.std.proofs.Common.{refl, arith, length-set}
+use Rattle.machine.proofs.frame.Laid.{turn_words, end_words, two_words}
 use Rattle.machine.proofs.frame.load.Goals as goal
 
 pub returns-then-k-eq2 : goal.returns-then-k-eq2

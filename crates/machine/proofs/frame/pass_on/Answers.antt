@@ -1,6 +1,5 @@
 -- The proof of `pass_on`. Assumes nothing.
-use Rattle.std.proofs.Common.{arith, length-set, rules}
-use Rattle.machine.proofs.frame.Laid.{rising_apart, gathered_laid, two_gathered}
+use Rattle.machine.proofs.frame.Laid.{gathered_laid, two_gathered}
 use Rattle.machine.proofs.frame.pass_on.Goals as goal
 
 pub returns-then-n-eq2 : goal.returns-then-n-eq2

@@ -1,7 +1,6 @@
 -- The proof of `rising`. Assumes nothing.
-use Rattle.std.proofs.Common.{ℕ, ◌+◌, ◌-◌, ◌<◌, ◌≤◌, arith}
+use Rattle.std.proofs.Common.{ℕ, ◌+◌, ◌-◌, ◌<◌, ◌≤◌}
 use Rattle.standing.specs.Bytes.{byte_at}
-use Rattle.machine.proofs.frame.Laid.{rises, not_so}
 use Rattle.machine.proofs.frame.rising.Given as goal
 
 abbrev pub invariant-loop-j : goal.invariant-loop-j
@@ -9,4 +8,3 @@ invariant-loop-j l = (i : ℕ) → i < l.j → i ≤ byte_at l.file (l.at + i)
 
 abbrev pub decreases-loop-j : goal.decreases-loop-j
 decreases-loop-j l = l.n - l.j
-

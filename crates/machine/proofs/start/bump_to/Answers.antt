@@ -1,4 +1,4 @@
-use Rattle.std.proofs.Common.{◌+◌, sym, ◌∙◌, arith, length-set, rules, eq-eqb, ne_eqb, le-leb}
+use Rattle.std.proofs.Common.{◌+◌, sym, ◌∙◌, arith, eq-eqb, ne_eqb, le-leb}
 use borrow.Author.Tests.{lt-leb}
 use Rattle.meaning.specs.Choice.{pick}
 use Rattle.machine.specs.StartArea.{counted, bump_to}

@@ -1,5 +1,5 @@
 -- The proof of `cell_fine`. Assumes nothing.
-use Rattle.std.proofs.Common.{◌*◌, arith, rules, le-ltb, lt-ltb, eq-eqb, ne_eqb, le-leb}
+use Rattle.std.proofs.Common.{le-ltb, lt-ltb, eq-eqb, ne_eqb, le-leb}
 use borrow.Author.Tests.{lt-leb}
 use Rattle.meaning.specs.Choice.{pick}
 use Rattle.machine.specs.StartWords.{cell_fine}

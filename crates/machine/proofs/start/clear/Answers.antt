@@ -1,5 +1,4 @@
-use Rattle.std.proofs.Common.{◌≡◌, ◌+◌, ◌-◌, ◌≤◌, length, set, sym, refl, ap, ◌∙◌, arith, length-set}
-use Rattle.machine.specs.StartArea.{cleared}
+use Rattle.std.proofs.Common.{◌+◌, set, sym, refl, ap, ◌∙◌, arith, length-set}
 use Rattle.machine.proofs.start.Turns.{cleared_none, cleared_more}
 use Rattle.machine.proofs.start.clear.Goals as goal
 
@@ -8,4 +7,3 @@ loop-i-init c = (omega arith, refl, cleared_none c.args.base c.args.work.now)
 
 pub loop-i-preserved : goal.loop-i-preserved
 loop-i-preserved c = let p = c.loop-i.invariant in (omega arith, simp length-set p.1, ap (λ l. set l (c.args.base + c.loop-i.i) 0) p.2 ∙ sym (cleared_more c.args.base c.loop-i.i c.args.work.now))
-

@@ -1,6 +1,5 @@
-use Rattle.std.proofs.Common.{◌≡◌, ◌+◌, ◌-◌, ◌≤◌, length, set, sym, refl, ap, ◌∙◌, arith, length-set}
+use Rattle.std.proofs.Common.{◌≡◌, ◌-◌, ◌≤◌, length}
 use Rattle.machine.specs.StartArea.{cleared}
-use Rattle.machine.proofs.start.Turns.{cleared_none, cleared_more}
 use Rattle.machine.proofs.start.clear.Given as goal
 
 abbrev pub invariant-loop-i : goal.invariant-loop-i
@@ -8,4 +7,3 @@ invariant-loop-i l = (l.i ≤ l.n) × (length l.work ≡ length l.initial.work) 
 
 abbrev pub decreases-loop-i : goal.decreases-loop-i
 decreases-loop-i l = l.n - l.i
-

@@ -1,5 +1,5 @@
 -- The proof of `code_of`. Assumes nothing.
-use Rattle.std.proofs.Common.{arith, rules}
+use Rattle.std.proofs.Common.{arith}
 use Rattle.machine.specs.StartWords.{code_from}
 use Rattle.machine.proofs.start.code_of.Goals as goal
 

@@ -1,8 +1,7 @@
 -- The proof of `codes_of`. Assumes nothing.
-use Rattle.std.proofs.Common.{◌≡◌, ℕ, ◌-◌, ◌%◌, ◌<◌, ◌≤◌, length, get_or, arith, length-set}
+use Rattle.std.proofs.Common.{ℕ, arith}
 use lib.ListN.{length-replicate}
-use Rattle.machine.specs.StartWords.{code_from}
-use Rattle.machine.proofs.start.Fields.{coded, codes_begin, codes_turn, codes_left}
+use Rattle.machine.proofs.start.Fields.{coded, codes_begin}
 use Rattle.machine.proofs.start.codes_of.Goals as goal
 
 pub loop-i-init : goal.loop-i-init

@@ -1,8 +1,6 @@
 -- The proof of `codes_of`. Assumes nothing.
-use Rattle.std.proofs.Common.{◌≡◌, ℕ, ◌-◌, ◌%◌, ◌<◌, ◌≤◌, length, get_or, arith, length-set}
-use lib.ListN.{length-replicate}
+use Rattle.std.proofs.Common.{◌≡◌, ℕ, ◌-◌, ◌%◌, ◌<◌, ◌≤◌, length, get_or}
 use Rattle.machine.specs.StartWords.{code_from}
-use Rattle.machine.proofs.start.Fields.{coded, codes_begin, codes_turn, codes_left}
 use Rattle.machine.proofs.start.codes_of.Given as goal
 
 abbrev pub invariant-loop-i : goal.invariant-loop-i
@@ -10,4 +8,3 @@ invariant-loop-i l = (l.i ≤ 64) × (length l.codes ≡ 64) × ((k : ℕ) → k
 
 abbrev pub decreases-loop-i : goal.decreases-loop-i
 decreases-loop-i l = 64 - l.i
-

@@ -1,6 +1,5 @@
 -- The proof of `drain_queue`. Assumes nothing.
-use Rattle.std.proofs.Common.{◌≡◌, ◌+◌, ◌-◌, ◌≤◌, length, sym, refl, ap, ◌∙◌, arith}
-use Rattle.meaning.specs.Answers.{wiped}
+use Rattle.std.proofs.Common.{◌≡◌, ◌+◌, ◌-◌, sym, ap, ◌∙◌, arith}
 use Rattle.machine.specs.StartArea.{area, drain_at, drain_fine}
 use Rattle.machine.proofs.start.Turns.{drain_turn, drain_stay, drain_none, fine_turn, fine_out, fine_stay, fine_none}
 use Rattle.machine.proofs.start.Goes.{went_bad, went_on}

@@ -1,9 +1,7 @@
 -- The proof of `drain_queue`. Assumes nothing.
-use Rattle.std.proofs.Common.{◌≡◌, ◌+◌, ◌-◌, ◌≤◌, length, sym, refl, ap, ◌∙◌, arith}
+use Rattle.std.proofs.Common.{◌≡◌, ◌+◌, ◌-◌, ◌≤◌, length}
 use Rattle.meaning.specs.Answers.{wiped}
 use Rattle.machine.specs.StartArea.{area, drain_at, drain_fine}
-use Rattle.machine.proofs.start.Turns.{drain_turn, drain_stay, drain_none, fine_turn, fine_out, fine_stay, fine_none}
-use Rattle.machine.proofs.start.Goes.{went_bad, went_on}
 use Rattle.machine.proofs.start.drain_queue.Given as goal
 
 abbrev pub invariant-loop-n : goal.invariant-loop-n
@@ -11,4 +9,3 @@ invariant-loop-n l = (l.n ≤ 1024) × (l.t ≤ 1024) × (length l.work ≡ leng
 
 abbrev pub decreases-loop-n : goal.decreases-loop-n
 decreases-loop-n l = 1024 - l.n
-

@@ -1,5 +1,5 @@
 -- The proof of `expand`. Assumes nothing.
-use Rattle.std.proofs.Common.{◌*◌, refl, arith, rules, le-ltb, lt-ltb, le-leb}
+use Rattle.std.proofs.Common.{refl, arith, le-ltb, lt-ltb, le-leb}
 use borrow.Author.Tests.{lt-leb}
 use Rattle.meaning.specs.Choice.{pick}
 use Rattle.machine.specs.StartWords.{inside_fine}

@@ -1,5 +1,5 @@
 -- The proof of `name_arg`. Assumes nothing.
-use Rattle.std.proofs.Common.{sym, refl, ◌∙◌, arith, rules, eq-eqb, ne_eqb}
+use Rattle.std.proofs.Common.{sym, refl, ◌∙◌, arith, eq-eqb, ne_eqb}
 use Rattle.meaning.specs.Choice.{pick}
 use Rattle.machine.specs.StartWords.{tree_arg}
 use Rattle.machine.specs.StartArea.{arg_at}

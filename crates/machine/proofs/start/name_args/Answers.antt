@@ -1,8 +1,7 @@
 -- The proof of `name_args`. Assumes nothing.
-use Rattle.std.proofs.Common.{◌≡◌, suc, ◌+◌, ◌-◌, ◌≤◌, length, sym, refl, ap, ◌∙◌, arith}
-use Rattle.meaning.specs.Answers.{wiped}
-use Rattle.machine.specs.StartWords.{tree_arg, all_from}
-use Rattle.machine.specs.StartArea.{area, args_at}
+use Rattle.std.proofs.Common.{◌≡◌, suc, ◌+◌, ◌-◌, length, sym, ◌∙◌, arith}
+use Rattle.machine.specs.StartWords.{tree_arg}
+use Rattle.machine.specs.StartArea.{area}
 use Rattle.machine.proofs.start.Turns.{all_in, all_out, all_none, args_turn, args_none}
 use Rattle.machine.proofs.start.Goes.{went_bad, went_on}
 use Rattle.machine.proofs.start.name_args.Goals as goal

@@ -1,10 +1,8 @@
 -- The proof of `name_args`. Assumes nothing.
-use Rattle.std.proofs.Common.{◌≡◌, suc, ◌+◌, ◌-◌, ◌≤◌, length, sym, refl, ap, ◌∙◌, arith}
+use Rattle.std.proofs.Common.{◌≡◌, ◌-◌, ◌≤◌, length}
 use Rattle.meaning.specs.Answers.{wiped}
 use Rattle.machine.specs.StartWords.{tree_arg, all_from}
 use Rattle.machine.specs.StartArea.{area, args_at}
-use Rattle.machine.proofs.start.Turns.{all_in, all_out, all_none, args_turn, args_none}
-use Rattle.machine.proofs.start.Goes.{went_bad, went_on}
 use Rattle.machine.proofs.start.name_args.Given as goal
 
 abbrev pub invariant-loop-i : goal.invariant-loop-i
@@ -12,4 +10,3 @@ invariant-loop-i l = (l.i ≤ length l.args) × (l.t ≤ 1024) × (length l.work
 
 abbrev pub decreases-loop-i : goal.decreases-loop-i
 decreases-loop-i l = length l.args - l.i
-

@@ -1,5 +1,5 @@
 -- The proof of `name_field`. Assumes nothing.
-use Rattle.std.proofs.Common.{refl, arith, rules, eq-eqb, ne_eqb}
+use Rattle.std.proofs.Common.{refl, arith, eq-eqb, ne_eqb}
 use Rattle.meaning.specs.Choice.{pick}
 use Rattle.machine.specs.StartWords.{field_fine}
 use Rattle.machine.specs.StartArea.{field_at}

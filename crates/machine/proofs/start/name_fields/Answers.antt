@@ -1,10 +1,9 @@
 -- The proof of `name_fields`. Assumes nothing.
-use Rattle.std.proofs.Common.{◌≡◌, suc, ◌+◌, ◌-◌, ◌<◌, ◌≤◌, length, sym, refl, ap, ◌∙◌, subst, arith}
-use Rattle.meaning.specs.Answers.{wiped}
+use Rattle.std.proofs.Common.{◌≡◌, suc, ◌+◌, ◌-◌, sym, ap, ◌∙◌, arith}
 use Rattle.machine.specs.StartWords.{trees_fine}
 use Rattle.machine.specs.StartArea.{area, fields_at}
 use Rattle.machine.proofs.start.Turns.{fields_none, fields_more, trees_more, trees_out}
-use Rattle.machine.proofs.start.Fields.{power, bits_none, bits_less, trees_none}
+use Rattle.machine.proofs.start.Fields.{bits_none, bits_less, trees_none}
 use Rattle.machine.proofs.start.Goes.{went_bad, went_on}
 use Rattle.machine.proofs.start.name_fields.Goals as goal
 

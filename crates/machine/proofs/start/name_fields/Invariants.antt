@@ -1,11 +1,9 @@
 -- The proof of `name_fields`. Assumes nothing.
-use Rattle.std.proofs.Common.{◌≡◌, suc, ◌+◌, ◌-◌, ◌<◌, ◌≤◌, length, sym, refl, ap, ◌∙◌, subst, arith}
+use Rattle.std.proofs.Common.{◌≡◌, ◌+◌, ◌-◌, ◌<◌, ◌≤◌, length}
 use Rattle.meaning.specs.Answers.{wiped}
 use Rattle.machine.specs.StartWords.{trees_fine}
 use Rattle.machine.specs.StartArea.{area, fields_at}
-use Rattle.machine.proofs.start.Turns.{fields_none, fields_more, trees_more, trees_out}
-use Rattle.machine.proofs.start.Fields.{power, bits_none, bits_less, trees_none}
-use Rattle.machine.proofs.start.Goes.{went_bad, went_on}
+use Rattle.machine.proofs.start.Fields.{power}
 use Rattle.machine.proofs.start.name_fields.Given as goal
 
 abbrev pub invariant-loop-rest : goal.invariant-loop-rest
@@ -13,4 +11,3 @@ invariant-loop-rest l = (l.t ≤ 1024) × (length l.work ≡ length l.initial.wo
 
 abbrev pub decreases-loop-rest : goal.decreases-loop-rest
 decreases-loop-rest l = l.rest
-

@@ -1,9 +1,9 @@
 -- The proof of `name_word`. Assumes nothing.
-use Rattle.std.proofs.Common.{sym, refl, ◌∙◌, arith, rules, le-leb}
-use borrow.Author.Tests.{lt-leb, not-true, not-false}
+use Rattle.std.proofs.Common.{sym, refl, ◌∙◌, arith, le-leb}
+use borrow.Author.Tests.{lt-leb}
 use Rattle.meaning.specs.Choice.{pick}
 use Rattle.machine.specs.StartArea.{name_at}
-use Rattle.machine.proofs.start.Goes.{went_bad, went_on}
+use Rattle.machine.proofs.start.Goes.{went_on}
 use Rattle.machine.proofs.start.Fine.{word_small}
 use Rattle.machine.proofs.start.name_word.Goals as goal
 

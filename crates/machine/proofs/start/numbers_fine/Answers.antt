@@ -1,6 +1,5 @@
-use Rattle.std.proofs.Common.{◌≡◌, suc, ◌+◌, ◌-◌, ◌≤◌, length, get_or, sym, ap, ◌∙◌, arith}
-use borrow.Author.Tests.{not-true, not-false}
-use Rattle.machine.specs.StartWords.{mode_at, number_arg, all_from}
+use Rattle.std.proofs.Common.{◌≡◌, suc, ◌+◌, ◌-◌, length, get_or, sym, ap, ◌∙◌, arith}
+use Rattle.machine.specs.StartWords.{mode_at, number_arg}
 use Rattle.machine.proofs.start.Turns.{all_in, all_out, all_none}
 use Rattle.machine.proofs.start.numbers_fine.Goals as goal
 

@@ -1,7 +1,5 @@
-use Rattle.std.proofs.Common.{◌≡◌, suc, ◌+◌, ◌-◌, ◌≤◌, length, get_or, sym, ap, ◌∙◌, arith}
-use borrow.Author.Tests.{not-true, not-false}
+use Rattle.std.proofs.Common.{◌≡◌, ◌-◌, ◌≤◌, length, get_or}
 use Rattle.machine.specs.StartWords.{mode_at, number_arg, all_from}
-use Rattle.machine.proofs.start.Turns.{all_in, all_out, all_none}
 use Rattle.machine.proofs.start.numbers_fine.Given as goal
 
 abbrev pub invariant-loop-i : goal.invariant-loop-i
@@ -9,4 +7,3 @@ invariant-loop-i l = (l.i ≤ length l.args) × (all_from (λ k. number_arg (mod
 
 abbrev pub decreases-loop-i : goal.decreases-loop-i
 decreases-loop-i l = length l.args - l.i
-

@@ -1,9 +1,8 @@
 -- The proof of `numbers_in`. Assumes nothing.
-use Rattle.std.proofs.Common.{◌≡◌, suc, ◌+◌, ◌-◌, ◌<◌, ◌≤◌, sym, ap, ◌∙◌, subst, arith}
-use borrow.Author.Tests.{not-true, not-false}
+use Rattle.std.proofs.Common.{◌≡◌, suc, ◌+◌, ◌-◌, sym, ap, ◌∙◌, arith}
 use Rattle.machine.specs.StartWords.{numbers_fine}
 use Rattle.machine.proofs.start.Turns.{numbers_more, numbers_out}
-use Rattle.machine.proofs.start.Fields.{power, bits_none, bits_less, numbers_none}
+use Rattle.machine.proofs.start.Fields.{bits_none, bits_less, numbers_none}
 use Rattle.machine.proofs.start.numbers_in.Goals as goal
 
 pub returns-then-not-f : goal.returns-then-not-f

@@ -1,9 +1,7 @@
 -- The proof of `numbers_in`. Assumes nothing.
-use Rattle.std.proofs.Common.{◌≡◌, suc, ◌+◌, ◌-◌, ◌<◌, ◌≤◌, sym, ap, ◌∙◌, subst, arith}
-use borrow.Author.Tests.{not-true, not-false}
+use Rattle.std.proofs.Common.{◌≡◌, ◌+◌, ◌-◌, ◌<◌, ◌≤◌}
 use Rattle.machine.specs.StartWords.{numbers_fine}
-use Rattle.machine.proofs.start.Turns.{numbers_more, numbers_out}
-use Rattle.machine.proofs.start.Fields.{power, bits_none, bits_less, numbers_none}
+use Rattle.machine.proofs.start.Fields.{power}
 use Rattle.machine.proofs.start.numbers_in.Given as goal
 
 abbrev pub invariant-loop-rest : goal.invariant-loop-rest
@@ -11,4 +9,3 @@ invariant-loop-rest l = (l.at ≤ l.p) × (l.p ≤ l.at + 4) × (l.rest < power 
 
 abbrev pub decreases-loop-rest : goal.decreases-loop-rest
 decreases-loop-rest l = l.rest
-

@@ -1,6 +1,5 @@
 -- The proof of `start_answer`. Assumes nothing.
-use Rattle.std.proofs.Common.{sym, refl, ◌∙◌, arith, rules, le-ltb, lt-ltb}
-use borrow.Author.Tests.{not-true, not-false}
+use Rattle.std.proofs.Common.{sym, refl, ◌∙◌, arith, le-ltb, lt-ltb}
 use Rattle.machine.specs.StartArea.{area, answer_at}
 use Rattle.machine.proofs.start.Joined.{by_numbers, by_owned, by_lent, by_shared, by_single, by_held, by_none, early, half, walked, freed, never}
 use Rattle.machine.proofs.start.Turns.{all_whole, all_rest}

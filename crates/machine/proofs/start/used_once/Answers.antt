@@ -1,8 +1,7 @@
 -- The proof of `used_once`. Assumes nothing.
-use Rattle.std.proofs.Common.{◌≡◌, suc, ◌+◌, ◌-◌, ◌≤◌, get_or, sym, refl, ◌∙◌, arith, le-leb}
+use Rattle.std.proofs.Common.{◌≡◌, suc, ◌+◌, ◌-◌, get_or, sym, ◌∙◌, arith, le-leb}
 use borrow.Author.Tests.{lt-leb}
 use Rattle.meaning.specs.Choice.{pick}
-use Rattle.machine.specs.StartWords.{all_from}
 use Rattle.machine.specs.StartArea.{used_once}
 use Rattle.machine.proofs.start.Turns.{all_in, all_out, all_none}
 use Rattle.machine.proofs.start.used_once.Goals as goal

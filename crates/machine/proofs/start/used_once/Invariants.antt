@@ -1,10 +1,7 @@
 -- The proof of `used_once`. Assumes nothing.
-use Rattle.std.proofs.Common.{◌≡◌, suc, ◌+◌, ◌-◌, ◌≤◌, get_or, sym, refl, ◌∙◌, arith, le-leb}
-use borrow.Author.Tests.{lt-leb}
-use Rattle.meaning.specs.Choice.{pick}
+use Rattle.std.proofs.Common.{◌≡◌, ◌+◌, ◌-◌, ◌≤◌, get_or}
 use Rattle.machine.specs.StartWords.{all_from}
 use Rattle.machine.specs.StartArea.{used_once}
-use Rattle.machine.proofs.start.Turns.{all_in, all_out, all_none}
 use Rattle.machine.proofs.start.used_once.Given as goal
 
 abbrev pub invariant-loop-i : goal.invariant-loop-i
@@ -12,4 +9,3 @@ invariant-loop-i l = (l.from ≤ l.i) × (all_from (λ k. used_once l.work (get_
 
 abbrev pub decreases-loop-i : goal.decreases-loop-i
 decreases-loop-i l = l.tail - l.i
-

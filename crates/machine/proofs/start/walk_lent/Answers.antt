@@ -1,5 +1,4 @@
 -- The proof of `walk_lent`. Assumes nothing.
-use Rattle.std.proofs.Common.{arith, rules}
 use Rattle.machine.specs.StartArea.{area}
 use Rattle.machine.proofs.start.Goes.{went_bad, went_after, all_stops, all_goes}
 use Rattle.machine.proofs.start.walk_lent.Goals as goal

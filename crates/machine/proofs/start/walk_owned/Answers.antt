@@ -1,5 +1,5 @@
 -- The proof of `walk_owned`. Assumes nothing.
-use Rattle.std.proofs.Common.{◌/◌, length, ap, ◌∙◌, arith, rules}
+use Rattle.std.proofs.Common.{◌/◌, length, ap, ◌∙◌, arith}
 use Rattle.meaning.specs.Answers.{wiped}
 use Rattle.machine.specs.StartArea.{area, args_at}
 use Rattle.machine.proofs.start.Cleared.{wiped_cleared}

@@ -1,6 +1,5 @@
-use Rattle.std.proofs.Common.{◌≡◌, ◌-◌, ◌≤◌, length, set, refl, ap, ◌∙◌, arith, length-set}
+use Rattle.std.proofs.Common.{◌≡◌, ◌-◌, ◌≤◌, length}
 use Rattle.meaning.specs.Answers.{wiped}
-use borrow.Author.Fill.{fill_none, fill_more}
 use Rattle.machine.proofs.start.wipe.Given as goal
 
 abbrev pub invariant-loop-i : goal.invariant-loop-i
@@ -8,4 +7,3 @@ invariant-loop-i l = (l.i ≤ 4096) × (4096 ≤ length l.initial.work) × (leng
 
 abbrev pub decreases-loop-i : goal.decreases-loop-i
 decreases-loop-i l = 4096 - l.i
-

@@ -1,5 +1,5 @@
 -- The proof of `arith`. Assumes nothing.
-use Rattle.std.proofs.Common.{sym, arith, rules, le-ltb, lt-ltb}
+use Rattle.std.proofs.Common.{sym, arith, le-ltb, lt-ltb}
 use Rattle.machine.specs.Layout.{ar_of}
 use Rattle.machine.proofs.step.arith.Goals as goal
 

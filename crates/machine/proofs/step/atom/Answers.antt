@@ -1,5 +1,4 @@
 -- The proof of `atom`. Assumes nothing.
-use Rattle.std.proofs.Common.{rules}
 use Rattle.machine.specs.Layout.{at_of}
 use Rattle.machine.proofs.step.atom.Goals as goal
 

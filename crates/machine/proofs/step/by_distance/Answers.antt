@@ -1,5 +1,5 @@
 -- The proof of `by_distance`. Assumes nothing.
-use Rattle.std.proofs.Common.{ne_eqb}
+use Rattle.std.proofs.Common.{arith, ne_eqb}
 use Rattle.meaning.specs.Choice.{pick}
 use Rattle.machine.specs.Steps.{by_distance}
 use Rattle.machine.proofs.step.by_distance.Goals as goal
@@ -134,4 +134,16 @@ returns-in-31 c = rw c.in-31.is
 
 pub returns-in_default : goal.returns-in_default
 unfolding by_distance pick
-returns-in_default c = rw (ne_eqb _ _ c.in_default.in_default-own.rest.0.0.0.0.0.0.0.0.0.0.0.0.0.0.0.0.0.0.0.0.0.0.0.0.0.0.0.0.0.0.1, ne_eqb _ _ c.in_default.in_default-own.rest.0.0.0.0.0.0.0.0.0.0.0.0.0.0.0.0.0.0.0.0.0.0.0.0.1, ne_eqb _ _ c.in_default.in_default-own.rest.0.0.0.0.0.0.0.0.0.0.0.0.0.0.0.0.0.0.0.0.0.0.1, ne_eqb _ _ c.in_default.in_default-own.rest.0.0.0.0.0.0.0.0.0.0.0.0.0.0.0.0.1, ne_eqb _ _ c.in_default.in_default-own.rest.0.0.0.0.0.0.0.0.0.0.0.0.0.0.1, ne_eqb _ _ c.in_default.in_default-own.rest.0.0.0.0.0.0.0.0.0.0.0.0.1, ne_eqb _ _ c.in_default.in_default-own.rest.0.0.0.0.0.0.0.1, ne_eqb _ _ c.in_default.in_default-own.rest.0.0.1, ne_eqb _ _ c.in_default.in_default-own.rest.0.1, ne_eqb _ _ c.in_default.in_default-own.rest.1)
+returns-in_default c =
+    rw (
+      ne_eqb c.args.distance 1 (λ e. omega arith),
+      ne_eqb c.args.distance 7 (λ e. omega arith),
+      ne_eqb c.args.distance 9 (λ e. omega arith),
+      ne_eqb c.args.distance 15 (λ e. omega arith),
+      ne_eqb c.args.distance 17 (λ e. omega arith),
+      ne_eqb c.args.distance 19 (λ e. omega arith),
+      ne_eqb c.args.distance 24 (λ e. omega arith),
+      ne_eqb c.args.distance 29 (λ e. omega arith),
+      ne_eqb c.args.distance 30 (λ e. omega arith),
+      ne_eqb c.args.distance 31 (λ e. omega arith),
+    )

@@ -1,10 +1,10 @@
 -- The proof of `call`. Assumes nothing.
-use Rattle.std.proofs.Common.{◌≡◌, ℕ, ◌+◌, ◌*◌, List, length, set, ap, ◌∙◌, ⊎_elim, arith, length-set, rules, le-leb}
+use Rattle.std.proofs.Common.{◌≡◌, ℕ, ◌+◌, ◌*◌, List, set, ap, ◌∙◌, arith, le-leb}
 use borrow.Author.Tests.{lt-leb}
 use Rattle.machine.specs.Layout.{cl_of, laid, gathered}
 use Rattle.meaning.specs.Choice.{pick}
 use Rattle.standing.specs.Bytes.{params_in, byte_at}
-use Rattle.machine.proofs.frame.Laid.{gathered_above, low_apart, laid_length, laid_one}
+use Rattle.machine.proofs.frame.Laid.{gathered_above, laid_one}
 use Rattle.machine.proofs.step.call.Goals as goal
 use Rattle.machine.proofs.step.call.Goals.{then-n-eq1, else-n-eq1}
 
@@ -28,8 +28,8 @@ returns c =
     let w₀ : List ℕ = saved c.args.work.now s.frame.depth s.frame.at n s.frame.bound in
     -- both ways hand over the same
     let given : c.if-n-eq1.work ≡ handed c.args.file.now c.args.work.now s.frame.depth s.frame.at n s.frame.bound =
-        elim c.if-n-eq1.branch [
-          then-n-eq1 w ↦ w.work-is ∙ ap (set w₀ (s.frame.depth * 32 + 32)) w.slot-v.ensures ∙ laid_one w₀ c.args.file.now w₀ (s.frame.depth * 32 + 32) (s.frame.depth * 32) (s.frame.at + 3) n w.if-n-eq1.true
-        | else-n-eq1 w ↦ w.work-is ∙ w.hand_over.ensures
-        ] in
+    elim c.if-n-eq1.branch [
+      | then-n-eq1 w ↦ w.work-is ∙ ap (set w₀ (s.frame.depth * 32 + 32)) w.slot-v.ensures ∙ laid_one w₀ c.args.file.now w₀ (s.frame.depth * 32 + 32) (s.frame.depth * 32) (s.frame.at + 3) n w.if-n-eq1.true
+      | else-n-eq1 w ↦ w.work-is ∙ w.hand_over.ensures
+    ] in
     rw (lt-leb _ _ c.if-depth.false, c.body.ensures, c.larger.ensures, given, c.params-n.ensures.0, c.byte-g.ensures.0, gathered_above c.args.file.now c.args.work.now (c.args.s.frame.depth * 32) (c.args.s.frame.at + 3) (params_in c.args.decl.now (byte_at c.args.file.now (c.args.s.frame.at + 2))) (1024 + c.args.s.frame.depth * 2) (c.args.s.frame.at + 3 + (params_in c.args.decl.now (byte_at c.args.file.now (c.args.s.frame.at + 2)))) (1024 + c.args.s.frame.depth * 2 + 1) c.args.s.frame.bound (omega arith) (omega arith) c.requires.7)

@@ -1,5 +1,5 @@
 -- The proof of `constructor`. Assumes nothing.
-use Rattle.std.proofs.Common.{arith, rules, le-ltb, lt-ltb}
+use Rattle.std.proofs.Common.{le-ltb, lt-ltb}
 use Rattle.machine.specs.Layout.{con_of}
 use Rattle.meaning.specs.Choice.{pick}
 use Rattle.machine.proofs.step.constructor.Goals as goal

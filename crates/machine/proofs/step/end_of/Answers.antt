@@ -1,7 +1,7 @@
 -- The proof of `end_of`. Assumes nothing.
-use Rattle.std.proofs.Common.{arith, rules}
+use Rattle.std.proofs.Common.{arith}
 use Rattle.machine.proofs.step.Skipping.{skips_one, skips_safe}
-use Rattle.machine.proofs.step.Ends.{keeps_same, end_kept, end_laid}
+use Rattle.machine.proofs.step.Ends.{end_laid}
 use Rattle.machine.proofs.step.end_of.Goals as goal
 
 pub overflow_add-work : goal.overflow_add-work

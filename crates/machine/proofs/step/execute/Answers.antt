@@ -1,6 +1,6 @@
 -- The proof of `execute`. Assumes nothing.
-use Rattle.std.proofs.Common.{◌∙◌, rules}
-use Rattle.machine.proofs.step.First.{first_fit, first_run, first_small, first_behind}
+use Rattle.std.proofs.Common.{◌∙◌}
+use Rattle.machine.proofs.step.First.{first_fit, first_run, first_behind}
 use Rattle.machine.proofs.step.execute.Goals as goal
 
 pub go-requires : goal.go-requires

@@ -1,8 +1,8 @@
 -- The proof of `find_branch`. Assumes nothing.
-use Rattle.std.proofs.Common.{ℕ, ◌≤◌, refl, arith}
-use Rattle.machine.specs.Skips.{SkipsAll, Found, Keeps}
+use Rattle.std.proofs.Common.{refl, arith}
+use Rattle.machine.specs.Skips.{Found}
 use Rattle.machine.proofs.step.Skipping.{skips_safe, skips_all_past, all_next, all_from, found_here, found_later}
-use Rattle.machine.proofs.step.Ends.{keeps_same, keeps_on}
+use Rattle.machine.proofs.step.Ends.{keeps_on}
 use Rattle.machine.proofs.step.find_branch.Goals as goal
 
 pub overflow_add-p : goal.overflow_add-p

@@ -1,8 +1,6 @@
 -- The proof of `find_branch`. Assumes nothing.
-use Rattle.std.proofs.Common.{ℕ, ◌≤◌, refl, arith}
+use Rattle.std.proofs.Common.{ℕ, ◌≤◌}
 use Rattle.machine.specs.Skips.{SkipsAll, Found, Keeps}
-use Rattle.machine.proofs.step.Skipping.{skips_safe, skips_all_past, all_next, all_from, found_here, found_later}
-use Rattle.machine.proofs.step.Ends.{keeps_same, keeps_on}
 use Rattle.machine.proofs.step.find_branch.Given as goal
 
 abbrev pub invariant-loop-left : goal.invariant-loop-left
@@ -10,4 +8,3 @@ invariant-loop-left l = ((next : ℕ) × SkipsAll l.file l.decl l.p l.left next 
 
 abbrev pub decreases-loop-left : goal.decreases-loop-left
 decreases-loop-left l = l.left
-

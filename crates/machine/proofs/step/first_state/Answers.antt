@@ -1,5 +1,4 @@
 -- The proof of `first_state`. Assumes nothing.
-use Rattle.std.proofs.Common.{rules}
 use Rattle.machine.specs.Layout.{first_of}
 use Rattle.machine.proofs.step.first_state.Goals as goal
 

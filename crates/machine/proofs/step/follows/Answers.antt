@@ -1,5 +1,5 @@
 -- The proof of `follows`. Assumes nothing.
-use Rattle.std.proofs.Common.{sym, subst, arith, rules}
+use Rattle.std.proofs.Common.{sym, subst, arith}
 use Rattle.meaning.specs.Marks.{mark_of, number_of, find_mark}
 use Rattle.standing.specs.Bytes.{mark_at}
 use Rattle.machine.specs.Skips.{past, then_of, SafeAt}
@@ -63,4 +63,4 @@ returns-in-14 c = rw ((mark_is (mark_at c.args.file.now c.args.at) c.mark-m.ensu
 
 pub returns-in_default : goal.returns-in_default
 unfolding then_of past find_mark
-returns-in_default c = rw (c.mark_row-row.ensures, c.mark-m.ensures) (sym (leaf_follows (mark_of (mark_at c.args.file.now c.args.at)) _ _ _ c.mark-m.ensures c.in_default.in_default-own.rest.0.0.0.0.0.0.0.0.0.1 c.in_default.in_default-own.rest.0.0.0.0.0.0.0.0.1 c.in_default.in_default-own.rest.0.0.0.0.0.0.0.1 c.in_default.in_default-own.rest.0.0.0.0.0.0.1 c.in_default.in_default-own.rest.0.0.0.0.0.1 c.in_default.in_default-own.rest.0.0.0.0.1 c.in_default.in_default-own.rest.0.0.0.1 c.in_default.in_default-own.rest.0.0.1 c.in_default.in_default-own.rest.0.1 c.in_default.in_default-own.rest.1))
+returns-in_default c = rw (c.mark_row-row.ensures, c.mark-m.ensures) (sym (leaf_follows (mark_of (mark_at c.args.file.now c.args.at)) _ _ _ c.mark-m.ensures (λ e. omega arith) (λ e. omega arith) (λ e. omega arith) (λ e. omega arith) (λ e. omega arith) (λ e. omega arith) (λ e. omega arith) (λ e. omega arith) (λ e. omega arith) (λ e. omega arith)))

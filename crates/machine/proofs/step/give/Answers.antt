@@ -1,5 +1,5 @@
 -- The proof of `give`. Assumes nothing.
-use Rattle.std.proofs.Common.{◌+◌, ◌-◌, ◌*◌, arith, rules, eq-eqb, ne_eqb}
+use Rattle.std.proofs.Common.{eq-eqb, ne_eqb}
 use Rattle.machine.specs.Layout.{gv_of}
 use Rattle.meaning.specs.Choice.{pick}
 use Rattle.machine.proofs.step.give.Goals as goal

@@ -1,7 +1,5 @@
 -- The proof of `go`. Assumes nothing.
-use Rattle.std.proofs.Common.{◌≡◌, ◌-◌, ◌≤◌, length, drop, refl, ◌∙◌, arith, rules}
-use Rattle.machine.specs.Layout.{top}
-use Rattle.machine.specs.Represents.{Reached}
+use Rattle.std.proofs.Common.{◌-◌, ◌≤◌, refl, ◌∙◌, arith}
 use Rattle.machine.proofs.step.Needed.{fit_mark}
 use Rattle.machine.proofs.step.Runs.{reached_start, reached_next, reached_on, reached_stop, reached_end, stop_small}
 use Rattle.machine.proofs.step.Behind.{step_behind}

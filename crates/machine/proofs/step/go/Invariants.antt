@@ -1,10 +1,7 @@
 -- The proof of `go`. Assumes nothing.
-use Rattle.std.proofs.Common.{◌≡◌, ◌-◌, ◌≤◌, length, drop, refl, ◌∙◌, arith, rules}
+use Rattle.std.proofs.Common.{◌≡◌, ◌≤◌, length, drop}
 use Rattle.machine.specs.Layout.{top}
 use Rattle.machine.specs.Represents.{Reached}
-use Rattle.machine.proofs.step.Needed.{fit_mark}
-use Rattle.machine.proofs.step.Runs.{reached_start, reached_next, reached_on, reached_stop, reached_end, stop_small}
-use Rattle.machine.proofs.step.Behind.{step_behind}
 use Rattle.machine.proofs.step.go.Given as goal
 
 abbrev pub invariant-loop-t : goal.invariant-loop-t
@@ -12,4 +9,3 @@ invariant-loop-t l = (l.t.left ≤ l.initial.t.left) × (length l.store ≡ leng
 
 abbrev pub decreases-loop-t : goal.decreases-loop-t
 decreases-loop-t l = l.t.left
-

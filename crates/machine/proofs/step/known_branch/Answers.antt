@@ -1,6 +1,5 @@
 -- The proof of `known_branch`. Assumes nothing.
-use Rattle.std.proofs.Common.{ℕ, refl, arith}
-use Rattle.machine.specs.Skips.{SkipsAll, Found}
+use Rattle.std.proofs.Common.{arith}
 use Rattle.machine.proofs.step.Skipping.{skips_safe, all_next, all_from, found_here, found_later}
 use Rattle.machine.proofs.step.Ends.{end_kept}
 use Rattle.machine.proofs.step.known_branch.Goals as goal

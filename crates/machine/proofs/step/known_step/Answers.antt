@@ -1,11 +1,11 @@
 -- The proof of `known_step`. Assumes nothing.
-use Rattle.std.proofs.Common.{◌<◌, ◌≤◌, refl, ap, ◌∙◌, arith, rules}
+use Rattle.std.proofs.Common.{◌<◌, ◌≤◌, refl, ap, ◌∙◌, arith}
 use Rattle.meaning.specs.Marks.{Mark}
 use Rattle.standing.specs.Bytes.{mark_at}
 use Rattle.machine.specs.Layout.{nu_of, at_of, tl_of, mk_of}
-use Rattle.machine.proofs.step.Marked.{mark_is, past_TL}
+use Rattle.machine.proofs.step.Marked.{mark_is}
 use Rattle.machine.proofs.step.Needed.{fit_needs, fit_mark, fit_opens, steps_of, opens_of}
-use Rattle.machine.proofs.step.Tries.{fit_node, gv_still, cl_still, ar_still, not_going, tried_of, tried_going}
+use Rattle.machine.proofs.step.Tries.{fit_node, gv_still, cl_still, ar_still, tried_of, tried_going}
 use Rattle.machine.proofs.step.known_step.Goals as goal
 
 pub node_mark-m-requires : goal.node_mark-m-requires

@@ -1,7 +1,5 @@
 -- The proof of `known_steps`. Assumes nothing.
-use Rattle.std.proofs.Common.{◌≡◌, ◌≤◌, length, drop, refl, ap, ◌∙◌, arith, rules}
-use Rattle.machine.specs.Layout.{top}
-use Rattle.machine.specs.Represents.{Reached}
+use Rattle.std.proofs.Common.{drop, refl, ap, ◌∙◌, arith}
 use Rattle.machine.proofs.step.Runs.{reached_start, reached_next, reached_same, reached_from, fit_from}
 use Rattle.machine.proofs.step.Behind.{step_behind}
 use Rattle.machine.proofs.step.known_steps.Goals as goal

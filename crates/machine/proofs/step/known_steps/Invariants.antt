@@ -1,9 +1,7 @@
 -- The proof of `known_steps`. Assumes nothing.
-use Rattle.std.proofs.Common.{◌≡◌, ◌≤◌, length, drop, refl, ap, ◌∙◌, arith, rules}
+use Rattle.std.proofs.Common.{◌≡◌, ◌≤◌, length, drop}
 use Rattle.machine.specs.Layout.{top}
 use Rattle.machine.specs.Represents.{Reached}
-use Rattle.machine.proofs.step.Runs.{reached_start, reached_next, reached_same, reached_from, fit_from}
-use Rattle.machine.proofs.step.Behind.{step_behind}
 use Rattle.machine.proofs.step.known_steps.Given as goal
 
 abbrev pub invariant-loop-left : goal.invariant-loop-left
@@ -11,4 +9,3 @@ invariant-loop-left l = (l.left ≤ l.limit) × (length l.store ≡ length l.ini
 
 abbrev pub decreases-loop-left : goal.decreases-loop-left
 decreases-loop-left l = l.left
-

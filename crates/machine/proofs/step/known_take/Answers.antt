@@ -1,9 +1,9 @@
 -- The proof of `known_take`. Assumes nothing.
-use Rattle.std.proofs.Common.{◌<◌, refl, ap, ◌∙◌, arith, rules, ne_eqb}
+use Rattle.std.proofs.Common.{ap, ◌∙◌, ne_eqb}
 use Rattle.meaning.specs.Choice.{pick}
 use Rattle.machine.specs.Layout.{op_of}
 use Rattle.machine.proofs.step.Ends.{keeps_same}
-use Rattle.machine.proofs.step.Tries.{opened_goes, not_going}
+use Rattle.machine.proofs.step.Tries.{opened_goes}
 use Rattle.machine.proofs.step.known_take.Goals as goal
 
 pub returns : goal.returns

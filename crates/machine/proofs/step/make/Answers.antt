@@ -1,7 +1,5 @@
 -- The proof of `make`. Assumes nothing.
-use Rattle.std.proofs.Common.{ap, ◌∙◌, arith, length-set, rules}
 use Rattle.machine.specs.Layout.{mk_of, mk_store}
-use Rattle.standing.specs.Bytes.{arity_in}
 use Rattle.machine.proofs.step.make.Goals as goal
 
 pub returns : goal.returns

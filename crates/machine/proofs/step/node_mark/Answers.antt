@@ -1,5 +1,5 @@
 -- The proof of `node_mark`. Assumes nothing.
-use Rattle.std.proofs.Common.{◌+◌, arith, rules}
+use Rattle.std.proofs.Common.{◌+◌, arith}
 use Rattle.standing.specs.Bytes.{byte_at}
 use Rattle.machine.proofs.step.Tries.{by_letters}
 use Rattle.machine.proofs.step.node_mark.Goals as goal

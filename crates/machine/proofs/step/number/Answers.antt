@@ -1,5 +1,4 @@
 -- The proof of `number`. Assumes nothing.
-use Rattle.std.proofs.Common.{rules}
 use Rattle.machine.specs.Layout.{nu_of}
 use Rattle.machine.proofs.step.number.Goals as goal
 

@@ -1,5 +1,5 @@
 -- The proof of `opened`. Assumes nothing.
-use Rattle.std.proofs.Common.{arith, rules, le-ltb, lt-ltb, eq-eqb, ne_eqb}
+use Rattle.std.proofs.Common.{le-ltb, lt-ltb, eq-eqb, ne_eqb}
 use Rattle.machine.specs.Layout.{opened_of}
 use Rattle.meaning.specs.Choice.{pick}
 use Rattle.machine.proofs.step.opened.Goals as goal

@@ -1,7 +1,6 @@
 -- The proof of `pass_record`: there are no more open terms than bytes, so their number fits. Assumes nothing.
-use Rattle.std.proofs.Common.{ap, ◌∙◌, arith, rules}
+use Rattle.std.proofs.Common.{ap, ◌∙◌, arith}
 use Rattle.machine.specs.Skips.{opens_of}
-use Rattle.machine.proofs.step.Skipping.{skips_safe}
 use Rattle.machine.proofs.step.Passing.{first_of, pass_over, terms_small}
 use Rattle.machine.proofs.step.pass_record.Goals as goal
 

@@ -1,8 +1,8 @@
 -- The proof of `skip_term`: the terms that are open stand one after the other, up to the byte after the whole term. Assumes nothing.
-use Rattle.std.proofs.Common.{◌≡◌, ℕ, ◌-◌, length, refl, subst, arith}
-use Rattle.machine.specs.Skips.{Skips, SkipsMany}
+use Rattle.std.proofs.Common.{refl, arith}
+use Rattle.machine.specs.Skips.{SkipsMany}
 use Rattle.machine.proofs.step.Skipping.{skips_safe}
-use Rattle.machine.proofs.step.Passing.{first_of, moves_on, pass_over, none_open}
+use Rattle.machine.proofs.step.Passing.{first_of, moves_on, pass_over}
 use Rattle.machine.proofs.step.skip_term.Goals as goal
 
 pub pass_record-p-requires : goal.pass_record-p-requires

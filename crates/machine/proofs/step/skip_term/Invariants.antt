@@ -1,8 +1,6 @@
 -- The proof of `skip_term`: the terms that are open stand one after the other, up to the byte after the whole term. Assumes nothing.
-use Rattle.std.proofs.Common.{◌≡◌, ℕ, ◌-◌, length, refl, subst, arith}
+use Rattle.std.proofs.Common.{ℕ, ◌-◌, length}
 use Rattle.machine.specs.Skips.{Skips, SkipsMany}
-use Rattle.machine.proofs.step.Skipping.{skips_safe}
-use Rattle.machine.proofs.step.Passing.{first_of, moves_on, pass_over, none_open}
 use Rattle.machine.proofs.step.skip_term.Given as goal
 
 abbrev pub invariant-loop-p : goal.invariant-loop-p
@@ -10,4 +8,3 @@ invariant-loop-p l = (next : ℕ) × Skips l.file l.decl l.at next × SkipsMany 
 
 abbrev pub decreases-loop-p : goal.decreases-loop-p
 decreases-loop-p l = length l.file - l.p.at
-

@@ -1,8 +1,8 @@
 -- The proof of `step`. Assumes nothing.
-use Rattle.std.proofs.Common.{◌<◌, ◌≤◌, refl, arith, rules}
+use Rattle.std.proofs.Common.{◌<◌, ◌≤◌, refl, arith}
 use Rattle.meaning.specs.Marks.{Mark, mark_of, find_mark}
 use Rattle.standing.specs.Bytes.{mark_at}
-use Rattle.machine.proofs.step.Marked.{mark_is, past_TL, no_node}
+use Rattle.machine.proofs.step.Marked.{mark_is, no_node}
 use Rattle.machine.proofs.step.Needed.{fit_needs, fit_mark, fit_opens, steps_of, opens_of}
 use Rattle.machine.proofs.step.step.Goals as goal
 

@@ -1,7 +1,5 @@
 -- The proof of `tail`. Assumes nothing.
-use Rattle.std.proofs.Common.{ap, ◌∙◌, arith, rules}
 use Rattle.machine.specs.Layout.{tl_of}
-use Rattle.standing.specs.Bytes.{params_in}
 use Rattle.machine.proofs.step.tail.Goals as goal
 
 pub returns : goal.returns

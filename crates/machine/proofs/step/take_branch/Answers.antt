@@ -1,5 +1,5 @@
 -- The proof of `take_branch`. Assumes nothing.
-use Rattle.std.proofs.Common.{◌<◌, arith, rules, eq-eqb, ne_eqb}
+use Rattle.std.proofs.Common.{eq-eqb, ne_eqb}
 use Rattle.meaning.specs.Choice.{pick}
 use Rattle.machine.specs.Layout.{op_of}
 use Rattle.machine.proofs.step.take_branch.Goals as goal

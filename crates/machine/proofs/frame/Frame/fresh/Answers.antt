@@ -1,5 +1,5 @@
 -- The proof of `Frame/fresh`. Assumes nothing.
-use Rattle.std.proofs.Common.{refl, rules}
+use Rattle.std.proofs.Common.{refl}
 use Rattle.machine.proofs.frame.Laid.{words_all}
 use Rattle.machine.proofs.frame.Frame.fresh.Goals as goal
 
