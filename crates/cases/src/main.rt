@@ -3,7 +3,11 @@
 
 ghost use Rattle.std.specs.Prelude.{◌≤◌};
 
-use libc::{STDIN_FILENO, STDOUT_FILENO};
+use std::io;
+use std::io::{Read, Write};
+
+// The bytes of the buffer, and the most that a case may have: one that says more gets no line.
+const BUFFER: usize = 65536;
 
 // A byte as a number.
 fn wide(byte: u8) -> usize
@@ -13,44 +17,54 @@ fn wide(byte: u8) -> usize
 }
 
 // Prints the line of a case.
-fn print_line(kind: u8, input: &[u8]) {
+fn print_line<W: Write>(output: &mut W, kind: u8, input: &[u8]) -> io::Result<()> {
     let mut line = [0u8; lines::ROOM];
     if kind == 0 {
         let end = lines::check_line(input, &mut line);
-        io::write_all(STDOUT_FILENO, &line[..end]);
-        return;
+        return output.write_all(&line[..end]);
     }
     let end = lines::run_line(input, &mut line);
-    io::write_all(STDOUT_FILENO, &line[..end]);
+    output.write_all(&line[..end])
 }
 
 // Reads a case's bytes, and prints its line.
-fn one_case(kind: u8, length: usize) {
-    let mut input = io::large_buffer();
-    if length > 65536 {
-        return;
+fn one_case<R: Read, W: Write>(
+    input: &mut R,
+    output: &mut W,
+    kind: u8,
+    length: usize,
+) -> io::Result<()> {
+    if length > BUFFER {
+        return Ok(());
     }
-    let n = io::read_full(STDIN_FILENO, &mut input[..length]);
-    print_line(kind, &input[..n]);
+    let mut bytes = [0u8; BUFFER];
+    let n = streams::read_full(input, &mut bytes[..length])?;
+    print_line(output, kind, &bytes[..n])
 }
 
 // Takes the next case, and answers whether there was one.
-fn next_case() -> bool {
+fn next_case<R: Read, W: Write>(input: &mut R, output: &mut W) -> io::Result<bool> {
     let mut head = [0u8; 4];
-    if io::read_full(STDIN_FILENO, &mut head) < 4 {
-        return false;
+    if streams::read_full(input, &mut head)? < 4 {
+        return Ok(false);
     }
     one_case(
+        input,
+        output,
         head[0],
         wide(head[1]) * 65536 + wide(head[2]) * 256 + wide(head[3]),
-    );
-    true
+    )?;
+    Ok(true)
 }
 
-// A proved loop has to end, and nothing says that the input does: so it counts down from a number of cases that no run uses up.
-fn main() {
-    let mut turns = u32::MAX;
-    while turns > 0 && next_case() {
-        turns -= 1;
+// A proved loop has to end, and nothing says that the input does: so it counts up to a number of cases that no run uses up.
+fn main(rt: HostRuntime) -> io::Result<()> {
+    let mut input = rt.stdin();
+    let mut output = rt.stdout();
+    for _ in 0..u32::MAX {
+        if !next_case(&mut input, &mut output)? {
+            break;
+        }
     }
+    Ok(())
 }

@@ -1,13 +1,21 @@
 // The checking program: reads a rule file from standard input, and prints its line.
 #![tactic(auto)]
 
-use libc::{STDIN_FILENO, STDOUT_FILENO};
+use std::io;
+use std::io::{Read, Write};
 
-// The buffer has more than 4,096 bytes, and a file over 4,096 bytes is refused by 1 whatever its bytes are: so what does not fit is not missed.
-fn main() {
-    let mut file = io::large_buffer();
-    let n = io::read_full(STDIN_FILENO, &mut file);
+// The bytes of the buffer. A file over 4,096 bytes is refused by 1 whatever its bytes are: so what does not fit is not missed.
+const BUFFER: usize = 65536;
+
+// Reads a rule file to its end, and writes its line.
+fn answer<R: Read, W: Write>(input: &mut R, output: &mut W) -> io::Result<()> {
+    let mut file = [0u8; BUFFER];
+    let n = streams::read_full(input, &mut file)?;
     let mut line = [0u8; lines::ROOM];
     let end = lines::check_line(&file[..n], &mut line);
-    io::write_all(STDOUT_FILENO, &line[..end]);
+    output.write_all(&line[..end])
+}
+
+fn main(rt: HostRuntime) -> io::Result<()> {
+    answer(&mut rt.stdin(), &mut rt.stdout())
 }

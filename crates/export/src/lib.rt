@@ -49,8 +49,7 @@ fn answer_words(answer: Answer) -> [u32; 5]
 }
 
 // Writes the words of a file's verdict.
-#[unsafe(no_mangle)]
-pub extern "C" fn base_check(file: &[u8], out: &mut [u32; 4])
+pub fn base_check(file: &[u8], out: &mut [u32; 4])
     ensures { out.new ≡ verdict_words (verdict_of file.now) }
 {
     let verdict = checker::check(file);
@@ -58,8 +57,7 @@ pub extern "C" fn base_check(file: &[u8], out: &mut [u32; 4])
 }
 
 // Runs a file on arguments over a lent store, in a lent work area, within a budget of steps, and writes the words of the answer.
-#[unsafe(no_mangle)]
-pub extern "C" fn base_run(
+pub fn base_run(
     file: &[u8],
     args: &[u32],
     store: &mut [u32],

@@ -4,110 +4,113 @@
 ghost use Rattle.std.specs.Prelude.{◌+◌, ◌*◌, ◌≤◌, ◌≡◌, ◌++◌, length, drop};
 ghost use Rattle.meaning.specs.Lines.{word_in, words_in};
 
-use libc::{STDIN_FILENO, STDOUT_FILENO};
 use month::Summary;
+use std::io;
+use std::io::{Read, Write};
 
 // The most words of an input: one run more than a month may have, so that the refusal 80 can show.
 const MOST: usize = 12291;
 
+// The bytes of the buffer: more than the longest input, of 4 + 4 * 12,291. A longer one is bad whatever its bytes are: so what does not fit is not missed.
+const BUFFER: usize = 65536;
+
 // Prints a text.
-fn say(text: &[u8]) {
-    io::write_all(STDOUT_FILENO, text);
+fn say<W: Write>(output: &mut W, text: &[u8]) -> io::Result<()> {
+    output.write_all(text)
 }
 
 // Prints a number.
-fn say_number(n: u32) {
-    io::print_decimal(STDOUT_FILENO, n as u64);
+fn say_number<W: Write>(output: &mut W, n: u32) -> io::Result<()> {
+    write!(output, "{n}")
 }
 
 // Prints a number of at most four digits, right-aligned.
-fn say_right(n: u32) {
+fn say_right<W: Write>(output: &mut W, n: u32) -> io::Result<()> {
     if n < 1000 {
-        say(b" ");
+        say(output, b" ")?;
     }
     if n < 100 {
-        say(b" ");
+        say(output, b" ")?;
     }
     if n < 10 {
-        say(b" ");
+        say(output, b" ")?;
     }
-    say_number(n);
+    say_number(output, n)
 }
 
 // Prints what an answer number means.
-fn say_meaning(number: u32) {
+fn say_meaning<W: Write>(output: &mut W, number: u32) -> io::Result<()> {
     match number {
-        0 => say(b"run done\n"),
-        1 => say(b"file over 4,096 bytes\n"),
-        2 => say(b"file ends early\n"),
-        3 => say(b"a mark not allowed here\n"),
-        4 => say(b"field out of range\n"),
-        5 => say(b"a limit passed\n"),
-        6 => say(b"bytes after the end\n"),
-        7 => say(b"slot not bound\n"),
-        8 => say(b"wrong kind of slot\n"),
-        9 => say(b"slot used\n"),
-        10 => say(b"credit of another size\n"),
-        11 => say(b"something left over\n"),
-        12 => say(b"constructor twice in one branch list\n"),
-        20 => say(b"store or work area of a wrong size\n"),
-        21 => say(b"wrong number of arguments\n"),
-        22 => say(b"an argument or a place is malformed\n"),
-        23 => say(b"an owned cell is named twice\n"),
-        24 => say(b"a cell reaches itself\n"),
-        31 => say(b"no branch fits\n"),
-        32 => say(b"budget spent\n"),
-        33 => say(b"no frame left\n"),
-        34 => say(b"a sum or a difference outside 0..65,535\n"),
-        _ => say(b"\n"),
+        0 => say(output, b"run done\n"),
+        1 => say(output, b"file over 4,096 bytes\n"),
+        2 => say(output, b"file ends early\n"),
+        3 => say(output, b"a mark not allowed here\n"),
+        4 => say(output, b"field out of range\n"),
+        5 => say(output, b"a limit passed\n"),
+        6 => say(output, b"bytes after the end\n"),
+        7 => say(output, b"slot not bound\n"),
+        8 => say(output, b"wrong kind of slot\n"),
+        9 => say(output, b"slot used\n"),
+        10 => say(output, b"credit of another size\n"),
+        11 => say(output, b"something left over\n"),
+        12 => say(output, b"constructor twice in one branch list\n"),
+        20 => say(output, b"store or work area of a wrong size\n"),
+        21 => say(output, b"wrong number of arguments\n"),
+        22 => say(output, b"an argument or a place is malformed\n"),
+        23 => say(output, b"an owned cell is named twice\n"),
+        24 => say(output, b"a cell reaches itself\n"),
+        31 => say(output, b"no branch fits\n"),
+        32 => say(output, b"budget spent\n"),
+        33 => say(output, b"no frame left\n"),
+        34 => say(output, b"a sum or a difference outside 0..65,535\n"),
+        _ => say(output, b"\n"),
     }
 }
 
 // Prints the line of an answer number that occurs.
-fn say_count(number: u32, count: u32) {
+fn say_count<W: Write>(output: &mut W, number: u32, count: u32) -> io::Result<()> {
     if count == 0 {
-        return;
+        return Ok(());
     }
-    say_right(count);
-    say(b"  answer ");
-    say_number(number);
-    say(b": ");
-    say_meaning(number);
+    say_right(output, count)?;
+    say(output, b"  answer ")?;
+    say_number(output, number)?;
+    say(output, b": ")?;
+    say_meaning(output, number)
 }
 
 // Prints the lines of all answer numbers that occur.
-fn say_counts(counts: [u32; 22]) {
+fn say_counts<W: Write>(output: &mut W, counts: [u32; 22]) -> io::Result<()> {
     let mut i: usize = 0;
     while i < 22 {
-        say_count(month::number_at(i), counts[i]);
+        say_count(output, month::number_at(i), counts[i])?;
         i += 1;
     }
+    Ok(())
 }
 
 // Prints a figure behind its name.
-fn say_figure(name: &[u8], figure: u32) {
-    say(name);
-    say_number(figure);
-    say(b"\n");
+fn say_figure<W: Write>(output: &mut W, name: &[u8], figure: u32) -> io::Result<()> {
+    say(output, name)?;
+    say_number(output, figure)?;
+    say(output, b"\n")
 }
 
 // Prints the month in numbers, or its refusal.
-fn say_month(m: Summary) {
+fn say_month<W: Write>(output: &mut W, m: Summary) -> io::Result<()> {
     if m.number == 80 {
-        say(b"refused 80: over 4,096 runs, or a part of one\n");
-        return;
+        return say(output, b"refused 80: over 4,096 runs, or a part of one\n");
     }
     if m.number == 81 {
-        say(b"refused 81: an answer number not in the table\n");
-        return;
+        return say(output, b"refused 81: an answer number not in the table\n");
     }
     let counts = m.counts;
-    say_counts(counts);
-    say(b"over the runs done:\n");
-    say_figure(b"  least steps: ", m.least);
-    say_figure(b"  greatest steps: ", m.greatest);
-    say_figure(b"  steps that nine tenths don't exceed: ", m.most);
-    say_figure(b"  greatest frames: ", m.frames);
+    say_counts(output, counts)?;
+    say(output, b"over the runs done:\n")?;
+    say_figure(output, b"  least steps: ", m.least)?;
+    say_figure(output, b"  greatest steps: ", m.greatest)?;
+    say_figure(output, b"  steps that nine tenths don't exceed: ", m.most)?;
+    say_figure(output, b"  greatest frames: ", m.frames)
 }
 
 // The 32-bit number at a place, high byte first.
@@ -140,28 +143,29 @@ fn copy_words(input: &[u8], at: usize, words: &mut [u32], count: usize)
 }
 
 // Prints the month of an input, or that the input is bad.
-fn report(input: &[u8]) {
+fn report<W: Write>(output: &mut W, input: &[u8]) -> io::Result<()> {
     if input.len() < 4 {
-        say(b"bad input\n");
-        return;
+        return say(output, b"bad input\n");
     }
     let count = word_at(input, 0) as usize;
     if count > MOST {
-        say(b"bad input\n");
-        return;
+        return say(output, b"bad input\n");
     }
     if input.len() == 4 + 4 * count {
         let mut words = empty_words();
         copy_words(input, 4, &mut words, count);
-        say_month(month::month(&words[..count]));
-        return;
+        return say_month(output, month::month(&words[..count]));
     }
-    say(b"bad input\n");
+    say(output, b"bad input\n")
 }
 
-// The buffer has more bytes than the longest input, of 4 + 4 * 12,291, and a longer one is bad whatever its bytes are: so what does not fit is not missed.
-fn main() {
-    let mut input = io::large_buffer();
-    let n = io::read_full(STDIN_FILENO, &mut input);
-    report(&input[..n]);
+// Reads an input to its end, and prints its month.
+fn answer<R: Read, W: Write>(input: &mut R, output: &mut W) -> io::Result<()> {
+    let mut bytes = [0u8; BUFFER];
+    let n = streams::read_full(input, &mut bytes)?;
+    report(output, &bytes[..n])
+}
+
+fn main(rt: HostRuntime) -> io::Result<()> {
+    answer(&mut rt.stdin(), &mut rt.stdout())
 }

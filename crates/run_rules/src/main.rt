@@ -1,13 +1,21 @@
 // The running program: reads a request from standard input, and prints its line.
 #![tactic(auto)]
 
-use libc::{STDIN_FILENO, STDOUT_FILENO};
+use std::io;
+use std::io::{Read, Write};
 
-// The buffer has more bytes than the longest request, of 16 + 4,097 + 4 * 9 + 20 * 1,025, and a longer input is bad whatever its bytes are: so what does not fit is not missed.
-fn main() {
-    let mut input = io::large_buffer();
-    let n = io::read_full(STDIN_FILENO, &mut input);
+// The bytes of the buffer: more than the longest request, of 16 + 4,097 + 4 * 9 + 20 * 1,025. A longer input is bad whatever its bytes: so what does not fit is not missed.
+const BUFFER: usize = 65536;
+
+// Reads a request to its end, and writes its line.
+fn answer<R: Read, W: Write>(input: &mut R, output: &mut W) -> io::Result<()> {
+    let mut request = [0u8; BUFFER];
+    let n = streams::read_full(input, &mut request)?;
     let mut line = [0u8; lines::ROOM];
-    let end = lines::run_line(&input[..n], &mut line);
-    io::write_all(STDOUT_FILENO, &line[..end]);
+    let end = lines::run_line(&request[..n], &mut line);
+    output.write_all(&line[..end])
+}
+
+fn main(rt: HostRuntime) -> io::Result<()> {
+    answer(&mut rt.stdin(), &mut rt.stdout())
 }
