@@ -1,5 +1,5 @@
--- How a mark is found in the table: by a key that is another for each of its marks. Worked out, not believed: `find_mark` promises `find_mark`
--- of Marks. Assumes nothing.
+-- How a mark is found in the table: by a key that is another for each of its marks. Worked out, not believed: the code's `find_mark` promises
+-- that of Marks. Assumes nothing.
 use Rattle.std.specs.Prelude.{ℕ, ◌+◌, ◌*◌, ◌/◌, ◌%◌, true, false, List, [], ◌∷◌, eqb}
 use Rattle.meaning.specs.Marks.{Mark, names, place_of, code}
 
