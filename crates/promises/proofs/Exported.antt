@@ -5,9 +5,9 @@ use contract.Lifetimes.{Lfts}
 use borrow.Fn.Kinds.{Dens, res_t, ended_of}
 use denote.Triple.Clauses.{AtExit}
 use Rattle.export.proofs.base_check.Reads as base_check
-use Rattle.export.proofs.base_check.Kinds as base-check-kinds
+use Rattle.export.proofs.base_check.Kinds as base_check_kinds
 use Rattle.export.proofs.base_run.Reads as base_run
-use Rattle.export.proofs.base_run.Kinds as base-run-kinds
+use Rattle.export.proofs.base_run.Kinds as base_run_kinds
 
 pub base_check_only : (κs : Lfts 2) (a : Dens κs base_check_kinds.ps) (r s : (res_t base_check_kinds.r κs).Denot) (e f : AtExit (ended_of 2 base_check_kinds.ps base_check_kinds.r) κs)
     → base_check.Post κs a r e → base_check.Post κs a s f → e.1.0.now ≡ f.1.0.now

@@ -4,11 +4,11 @@ use contract.Lifetimes.{Lfts}
 use borrow.Fn.Kinds.{Dens, res_t, ended_of}
 use denote.Triple.Clauses.{AtExit}
 use Rattle.meaning.proofs.find_mark.Reads as find_mark
-use Rattle.meaning.proofs.find_mark.Kinds as find-mark-kinds
+use Rattle.meaning.proofs.find_mark.Kinds as find_mark_kinds
 use Rattle.meaning.proofs.mark_row.Reads as mark_row
-use Rattle.meaning.proofs.mark_row.Kinds as mark-row-kinds
+use Rattle.meaning.proofs.mark_row.Kinds as mark_row_kinds
 use Rattle.meaning.proofs.keyed_mark.Reads as keyed_mark
-use Rattle.meaning.proofs.keyed_mark.Kinds as keyed-mark-kinds
+use Rattle.meaning.proofs.keyed_mark.Kinds as keyed_mark_kinds
 use Rattle.meaning.proofs.size.Reads as size
 use Rattle.meaning.proofs.size.Kinds as size_kinds
 use Rattle.meaning.proofs.binds.Reads as binds

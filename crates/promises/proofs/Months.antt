@@ -6,7 +6,7 @@ use denote.Triple.Clauses.{AtExit}
 use Rattle.month.proofs.month.Reads as month
 use Rattle.month.proofs.month.Kinds as month_kinds
 use Rattle.month.proofs.number_at.Reads as number_at
-use Rattle.month.proofs.number_at.Kinds as number-at-kinds
+use Rattle.month.proofs.number_at.Kinds as number_at_kinds
 
 pub month_only : (κs : Lfts 1) (a : Dens κs month_kinds.ps) (r s : (res_t month_kinds.r κs).Denot) (e f : AtExit (ended_of 1 month_kinds.ps month_kinds.r) κs)
     → month.Post κs a r e → month.Post κs a s f → r ≡ s

@@ -4,11 +4,11 @@ use contract.Lifetimes.{Lfts}
 use borrow.Fn.Kinds.{Dens, res_t, ended_of}
 use denote.Triple.Clauses.{AtExit}
 use Rattle.standing.proofs.byte_at.Reads as byte_at
-use Rattle.standing.proofs.byte_at.Kinds as byte-at-kinds
+use Rattle.standing.proofs.byte_at.Kinds as byte_at_kinds
 use Rattle.standing.proofs.mark_at.Reads as mark_at
-use Rattle.standing.proofs.mark_at.Kinds as mark-at-kinds
+use Rattle.standing.proofs.mark_at.Kinds as mark_at_kinds
 use Rattle.standing.proofs.entry_word.Reads as entry_word
-use Rattle.standing.proofs.entry_word.Kinds as entry-word-kinds
+use Rattle.standing.proofs.entry_word.Kinds as entry_word_kinds
 use Rattle.standing.proofs.arity.Reads as arity
 use Rattle.standing.proofs.arity.Kinds as arity_kinds
 use Rattle.standing.proofs.sorts.Reads as sorts
