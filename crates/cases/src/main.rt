@@ -1,7 +1,9 @@
 // Runs the cases that stand on standard input, and prints a line for each. A case is a kind (0: a file to check, 1: a request to run), the length of its bytes in three bytes, high byte first, and the bytes.
 #![tactic(auto)]
 
-ghost use Rattle.std.specs.Prelude.{◌≤◌};
+ghost use Rattle.std.specs.Prelude.{◌≤◌, OnOk};
+ghost use Rattle.std.specs.Io.KnownBytes.{Appends};
+ghost use Rattle.cases.specs.Kinds.{line_of};
 
 use std::io;
 use std::io::{Read, Write};
@@ -17,7 +19,9 @@ fn wide(byte: u8) -> usize
 }
 
 // Prints the line of a case.
-fn print_line<W: Write>(output: &mut W, kind: u8, input: &[u8]) -> io::Result<()> {
+fn print_line<W: Write>(output: &mut W, kind: u8, input: &[u8]) -> io::Result<()>
+    ensures { OnOk result (Appends (W.contents output.old) (W.contents output.new) (line_of kind input.now)) }
+{
     let mut line = [0u8; lines::ROOM];
     if kind == 0 {
         let end = lines::check_line(input, &mut line);

@@ -6,7 +6,7 @@ use native.Mathlib.Numerals.{add-one}
 use mathlib.Core.Path.{◌≡◌, refl, sym, ap, ◌∙◌}
 use mathlib.Core.List.{List, [], ◌∷◌, ◌++◌}
 use lib.ListN.{length, get_or, set, take, drop, length-append}
-use lib.Seq.{sets, sets-eq, length-sets, take-suc, length-take-le}
+use lib.Seq.{sets, sets-eq, length-sets, take-suc, take_at, length-take-le}
 use Rattle.meaning.specs.Lines.{written}
 use Rattle.lines.specs.Writing.{laid, Wrote, Line}
 
@@ -65,3 +65,8 @@ wrote_line {text} {old} {new} {next} line p e h =
       within = omega arith;
       part = sym (length-take-le next new (omega arith));
     }
+
+-- the bytes counted are the line's
+pub line_bytes : {line old new : List ℕ} {count : ℕ} → Line line old new count → take count new ≡ line
+unfolding written
+line_bytes {line} {old} {new} {count} p = ap (take count) p.bytes ∙ take_at line (drop (length line) old) count (sym p.counted)

@@ -1,10 +1,7 @@
 -- `copy_words` meets its contract. The loop's invariant: the first `i` words are the input's, and the rest stay. Assumes nothing.
-use Prim.Native.Nat.{◌≤◌, ◌+◌, ◌*◌, ◌-◌}
 use native.Mathlib.Omega.{arith}
-use mathlib.Core.Path.{◌≡◌, refl}
-use mathlib.Core.List.{◌++◌}
-use lib.ListN.{length, drop, length-set}
-use Rattle.meaning.specs.Lines.{words_in}
+use mathlib.Core.Path.{refl}
+use lib.ListN.{length-set}
 use Rattle.lines.proofs.Words.{no_words, next_word}
 use Rattle.month_report.proofs.copy_words.Goals as goal
 

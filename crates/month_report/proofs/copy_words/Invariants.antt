@@ -1,11 +1,9 @@
 -- `copy_words` meets its contract. The loop's invariant: the first `i` words are the input's, and the rest stay. Assumes nothing.
 use Prim.Native.Nat.{◌≤◌, ◌+◌, ◌*◌, ◌-◌}
-use native.Mathlib.Omega.{arith}
-use mathlib.Core.Path.{◌≡◌, refl}
+use mathlib.Core.Path.{◌≡◌}
 use mathlib.Core.List.{◌++◌}
-use lib.ListN.{length, drop, length-set}
+use lib.ListN.{length, drop}
 use Rattle.meaning.specs.Lines.{words_in}
-use Rattle.lines.proofs.Words.{no_words, next_word}
 use Rattle.month_report.proofs.copy_words.Given as goal
 
 abbrev pub invariant-loop-i : goal.invariant-loop-i

@@ -1,7 +1,5 @@
 -- `say_counts` is safe and ends. Assumes nothing.
 use Prim.Native.Nat.{◌≤◌, ◌-◌}
-use native.Mathlib.Omega.{arith}
-use borrow.Author.Rules.{rules}
 use Rattle.month_report.proofs.say_counts.Given as goal
 
 abbrev pub invariant-loop-i : goal.invariant-loop-i

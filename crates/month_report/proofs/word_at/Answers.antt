@@ -1,7 +1,4 @@
 -- `word_at` meets its contract: each byte is below 256, so nothing wraps. Assumes nothing.
-use borrow.Author.Rules.{rules}
-use native.Mathlib.Omega.{arith}
-use Prim.Native.Nat.{◌+◌}
 use mathlib.Core.Path.{refl}
 use Rattle.meaning.specs.Lines.{word_in}
 use Rattle.month_report.proofs.word_at.Goals as goal

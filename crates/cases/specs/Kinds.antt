@@ -1,0 +1,7 @@
+-- The line of a case: a file is checked, a request is run. Assumes nothing.
+use Rattle.std.specs.Prelude.{ℕ, zero, suc, List}
+use Rattle.meaning.specs.Lines.{check_line, run_line}
+
+abbrev pub line_of : (kind : ℕ) → (bytes : List ℕ) → List ℕ
+line_of zero bytes = check_line bytes
+line_of (suc other) bytes = run_line bytes
