@@ -131,8 +131,8 @@ fn empty_words() -> [u32; 12291]
 
 // Copies so many words from a place of the input to the first words that are lent.
 fn copy_words(input: &[u8], at: usize, words: &mut [u32], count: usize)
-    requires count_in_bounds { at + 4 * count ≤ length input.now }
-    requires count_in_bounds_2 { count ≤ length words.old }
+    requires within_input { at + 4 * count ≤ length input.now }
+    requires room { count ≤ length words.old }
     ensures { words.new ≡ words_in input.now at count ++ drop count words.old }
 {
     let mut i = 0;

@@ -6,11 +6,7 @@ use Rattle.lines.proofs.Words.{no_words, next_word}
 use Rattle.month_report.proofs.copy_words.Goals as goal
 
 pub loop-i-init : goal.loop-i-init
-loop-i-init c = (omega arith, c.requires.count_in_bounds, c.requires.count_in_bounds_2, refl, no_words _ _ _)
+loop-i-init c = (omega arith, c.requires.within_input, c.requires.room, refl, no_words _ _ _)
 
 pub loop-i-preserved : goal.loop-i-preserved
 loop-i-preserved c = (omega arith, c.loop-i.invariant.1, c.loop-i.invariant.2, simp length-set c.loop-i.invariant.3, rw (c.word_at.ensures, c.loop-i.invariant.4) (next_word _ _ _ _ (omega arith)))
-
--- NO NEED same-length
--- same_length : tie.Need-same-length invariant_loop decreases_loop
--- same_length c = c.before.loop.invariant.3

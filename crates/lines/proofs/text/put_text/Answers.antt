@@ -9,7 +9,3 @@ loop-i-init c = (omega arith, omega (arith, c.requires), rw add-zero (wrote_noth
 
 pub loop-i-preserved : goal.loop-i-preserved
 loop-i-preserved c = (omega arith, omega arith, wrote_next _ _ _ _ _ c.loop-i-test.true c.loop-i.invariant.2)
-
--- NO NEED same-length
--- same_length : tie.Need-same-length invariant_loop decreases_loop
--- same_length c = wrote_length c.before.loop.invariant.2
