@@ -30,10 +30,6 @@ relax-next-requires c =
     let l = c.loop-k in
     λ f. omega (arith, low a.square (bits_of 32 a.seen) l.k f l.invariant.1)
 
--- NO NEED overflow-cast-t13
--- cast_t13 : tie.Need-overflow-cast-t13 invariant_loop decreases_loop
--- cast_t13 c = let l = c.before.before.before.before.loop in omega (arith, low _ _ l.k 0 l.invariant.1)
-
 pub returns-then-same : goal.returns-then-same
 returns-then-same c =
     let a = c.args in
