@@ -2,6 +2,6 @@
 use Rattle.std.specs.Prelude.{ℕ, zero, suc, List}
 use Rattle.meaning.specs.Lines.{check_line, run_line}
 
-abbrev pub line_of : (kind : ℕ) → (bytes : List ℕ) → List ℕ
-line_of zero bytes = check_line bytes
-line_of (suc other) bytes = run_line bytes
+abbrev pub line_by_kind : (kind : ℕ) → (bytes : List ℕ) → List ℕ
+line_by_kind zero bytes = check_line bytes
+line_by_kind (suc other) bytes = run_line bytes

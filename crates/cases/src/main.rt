@@ -3,7 +3,7 @@
 
 ghost use Rattle.std.specs.Prelude.{◌≤◌, OnOk};
 ghost use Rattle.std.specs.Io.KnownBytes.{Appends};
-ghost use Rattle.cases.specs.Kinds.{line_of};
+ghost use Rattle.cases.specs.Kinds.{line_by_kind};
 
 use std::io;
 use std::io::{Read, Write};
@@ -20,7 +20,7 @@ fn wide(byte: u8) -> usize
 
 // Prints the line of a case.
 fn print_line<W: Write>(output: &mut W, kind: u8, input: &[u8]) -> io::Result<()>
-    ensures { OnOk result (Appends (W.contents output.old) (W.contents output.new) (line_of kind input.now)) }
+    ensures { OnOk result (Appends (W.contents output.old) (W.contents output.new) (line_by_kind kind input.now)) }
 {
     let mut line = [0u8; lines::ROOM];
     if kind == 0 {

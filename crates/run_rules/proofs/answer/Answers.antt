@@ -1,20 +1,10 @@
--- What is written is the line of what was read, which is that of the whole request. Assumes nothing.
-use Rattle.std.proofs.Common.{◌≡◌, List, ℕ, Option, None, Some, Result, Ok, Err, OnOk, IfSome, take, ap, ◌∙◌, subst}
-use Rattle.std.specs.Io.KnownBytes.{Appends}
+-- What is written is the line of what was read, which is that of the whole input. Assumes nothing.
+use Rattle.std.proofs.Common.{arith}
 use Rattle.meaning.specs.Lines.{run_line}
 use Rattle.lines.proofs.Writing.{line_bytes}
-use Rattle.run_rules.proofs.Long.{first_bytes}
+use Rattle.streams.proofs.Answering.{whole_line}
+use Rattle.run_rules.proofs.Long.{one_line}
 use Rattle.run_rules.proofs.answer.Goals as goal
 
-said : (known old new : Option (List ℕ)) (request line : List ℕ)
-    → IfSome known (λ bytes. request ≡ take 65536 bytes) → line ≡ run_line request → Appends old new line
-    → IfSome known (λ bytes. Appends old new (run_line bytes))
-said None old new request line p q h = tt
-said (Some bytes) old new request line p q h = subst (Appends old new) (q ∙ ap run_line p ∙ first_bytes bytes) h
-
-if_ok : {E P Q : Type 0} (r : Result (Unit {0}) E) → (P → Q) → OnOk r P → OnOk r Q
-if_ok (Ok x) f h = f h
-if_ok (Err e) f h = tt
-
 pub returns : goal.returns
-returns g c = if_ok _ (said _ _ _ _ _ c.in_ok-n.ensures.first (line_bytes c.run_line-end.ensures)) c.write_all.ensures.bytes
+returns g c = whole_line run_line 24649 65536 (omega arith) one_line _ _ _ _ _ _ c.in_ok-n.ensures.first (line_bytes c.run_line-end.ensures) c.write_all.ensures.bytes
