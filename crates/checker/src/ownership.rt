@@ -8,7 +8,14 @@ ghost use Rattle.checker.specs.Ownership.{fine, fault, result_in, take_kind, tak
 
 use crate::sets::{has, with};
 use crate::slots::{Want, current, kind_of, left_over, spends, test, want_back, want_of};
-use meaning::{AR, CL, GV, IF, Kind, LK, MK, NU, OP, Slot, TL, find_mark};
+use meaning::{AR, CL, GV, IF, Kind, LK, MK, NU, OP, Slot, TL};
+
+// The place of a mark in the table of marks.
+fn find_mark(mark: u16) -> usize
+    ensures { result ≡ find_mark mark }
+{
+    meaning::find_mark(mark).place()
+}
 
 // What a record takes: the slots that it spends, as bits; or, where the number is not 0, a fault and its place.
 #[derive(Clone, Copy)]

@@ -1,13 +1,21 @@
 // Reading: answers 1 to 6, over the bytes. No tree is built; what the file declares goes into one table of 128 words.
 ghost use Rattle.std.specs.Prelude.{◌≡◌, [], ◌+◌, ◌*◌, ◌%◌, ◌<◌, ◌≤◌, length};
+ghost use Rattle.meaning.specs.Marks.{find_mark};
 ghost use Rattle.standing.specs.Bytes.{byte_at};
 ghost use Rattle.checker.specs.ReadingBytes.{binds_of, room, known_arity, known_count, atom_field, make_fields, call_fields, open_fields, sum_fields, fields_at, follows_at, limited, node_at, more_of, branch_fields, branch_at, number_at, small_bytes, con_at, fun_at, expect_at, finish_at, end_at};
 ghost use Rattle.checker.specs.Opening.{table_with, ConsRead, Headed, FunsRead, HeaderRead, Ends};
 
 use meaning::{
     AR, AT, BR, BRANCHES, CL, CN, CONSTRUCTORS, EARLY, FIELDS, FN, FUNCTIONS, GV, IF, LK, MK, ND,
-    NODES, NU, OP, PARAMETERS, SLOTS, TL, find_mark, mark_row,
+    NODES, NU, OP, PARAMETERS, SLOTS, TL, mark_row,
 };
+
+// The place of a mark in the table of marks.
+fn find_mark(mark: u16) -> usize
+    ensures { result ≡ find_mark mark }
+{
+    meaning::find_mark(mark).place()
+}
 
 // The slots and the nodes on a path, from the body's start.
 #[derive(Clone, Copy)]

@@ -3,7 +3,7 @@ use Rattle.std.specs.Prelude.{ℕ, ◌+◌, ◌-◌, ◌*◌, ◌<◌, ◌≤◌
 use Rattle.machine.specs.Layout.{Top, slot_in, con_of, Low}
 use Rattle.machine.specs.Skips.{Skips, SkipsAll, Found, EndNeeds}
 use Rattle.standing.specs.Bytes.{byte_at, arity_in, params_in}
-use Rattle.meaning.specs.Marks.{Mark}
+use Rattle.meaning.specs.declared.Mark.{Mark}
 
 -- a term that begins at `at` with `size` bytes, in a work area that is large enough
 abbrev pub Room : (size : ℕ) → List ℕ → Top → Type 0
@@ -52,4 +52,4 @@ NeedsAt Mark.FN bytes decl store c = Unit {0}
 NeedsAt Mark.BD bytes decl store c = Unit {0}
 NeedsAt Mark.ND bytes decl store c = Unit {0}
 NeedsAt Mark.BR bytes decl store c = Unit {0}
-NeedsAt Mark.other bytes decl store c = Unit {0}
+NeedsAt Mark.Other bytes decl store c = Unit {0}

@@ -2,7 +2,8 @@
 use Rattle.std.specs.Prelude.{◌≡◌, ℕ, suc, ◌+◌, ◌/◌, ◌%◌, ◌<◌, ◌≤◌, List, length, drop, ◌≢◌, slice_index}
 use Rattle.machine.specs.declared.step.Then.{Then}
 use Rattle.machine.specs.declared.step.Then.TheVariants.{Leaf, One, Two, Many}
-use Rattle.meaning.specs.Marks.{Mark, row_at, number_of, mark_of}
+use Rattle.meaning.specs.declared.Mark.{Mark}
+use Rattle.meaning.specs.Marks.{row_at, number_of, mark_of}
 use Rattle.standing.specs.Bytes.{byte_at, mark_at, arity_in, params_in}
 
 -- the byte after a record's fixed fields
@@ -26,7 +27,7 @@ then_at Mark.FN bytes decl at = Leaf (past Mark.FN at)
 then_at Mark.BD bytes decl at = Leaf (past Mark.BD at)
 then_at Mark.ND bytes decl at = Leaf (past Mark.ND at)
 then_at Mark.BR bytes decl at = One (past Mark.BR at)
-then_at Mark.other bytes decl at = Leaf (past Mark.other at)
+then_at Mark.Other bytes decl at = Leaf (past Mark.Other at)
 
 -- the byte where that begins, and how many terms it is
 abbrev pub next_of : Then → ℕ
@@ -61,7 +62,7 @@ SafeAt Mark.FN bytes at = Unit {0}
 SafeAt Mark.BD bytes at = Unit {0}
 SafeAt Mark.ND bytes at = Unit {0}
 SafeAt Mark.BR bytes at = Unit {0}
-SafeAt Mark.other bytes at = Unit {0}
+SafeAt Mark.Other bytes at = Unit {0}
 
 abbrev pub Safe : List ℕ → ℕ → Type 0
 Safe bytes at = (at + 3 ≤ length bytes) × SafeAt (mark_of (mark_at bytes at)) bytes at

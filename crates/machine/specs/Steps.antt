@@ -7,7 +7,8 @@ use Rattle.machine.specs.Layout.{Top, top, moved, slot_in, nu_of, at_of, ar_of, 
 use Rattle.machine.specs.Skips.{Skips, Found, Keeps}
 use Rattle.standing.specs.Bytes.{byte_at, mark_at}
 use Rattle.meaning.specs.Choice.{pick}
-use Rattle.meaning.specs.Marks.{Mark, mark_of}
+use Rattle.meaning.specs.declared.Mark.{Mark}
+use Rattle.meaning.specs.Marks.{mark_of}
 
 -- the word of the slot that OP, LK or IF names
 abbrev pub named : List ℕ → Top → ℕ
@@ -46,7 +47,7 @@ StepsAt Mark.FN bytes decl store c store' c' = (store' ≡ store) × (c' ≡ c)
 StepsAt Mark.BD bytes decl store c store' c' = (store' ≡ store) × (c' ≡ c)
 StepsAt Mark.ND bytes decl store c store' c' = (store' ≡ store) × (c' ≡ c)
 StepsAt Mark.BR bytes decl store c store' c' = (store' ≡ store) × (c' ≡ c)
-StepsAt Mark.other bytes decl store c store' c' = (store' ≡ store) × (c' ≡ c)
+StepsAt Mark.Other bytes decl store c store' c' = (store' ≡ store) × (c' ≡ c)
 
 pub record Steps (bytes decl store : List ℕ) (c : Top) (store' : List ℕ) (c' : Top) : Type 0 where
   pub does : StepsAt (mark_of (mark_at bytes c.state.frame.at)) bytes decl store c store' c'

@@ -14,7 +14,14 @@ ghost use Rattle.machine.specs.Steps.{Steps, Tried, Node, Opened, Chosen, by_dis
 use crate::frame::{
     Frame, State, Store, bind, byte, fill, finish, go_to, hand_over, load, pass_on, slot, wide,
 };
-use meaning::{AR, AT, BR, CL, GV, IF, LK, MK, NU, OP, OTHER, TL, find_mark, mark_row};
+use meaning::{AR, AT, BR, CL, GV, IF, LK, MK, NU, OP, OTHER, TL, mark_row};
+
+// The place of a mark in the table of marks.
+fn find_mark(mark: u16) -> usize
+    ensures { result ≡ find_mark mark }
+{
+    meaning::find_mark(mark).place()
+}
 
 // What follows a node, and where.
 #[derive(Clone, Copy)]

@@ -9,7 +9,9 @@ use lib.ListN.{get_or, get_or-eq_default}
 use borrow.Author.Tests.{eqb-true, eqb-false, ne_eqb}
 use native.Mathlib.Omega.{arith}
 use Rattle.meaning.specs.declared.MarkRow.{MarkRow}
-use Rattle.meaning.specs.Marks.{Mark, CN, FN, BD, ND, GV, AT, MK, CL, TL, OP, LK, BR, NU, AR, IF, other, marks, names, find, row, rows, row_at, code, place_of, number_of, mark_of, find_mark}
+use Rattle.meaning.specs.declared.Mark.{Mark}
+use Rattle.meaning.specs.declared.Mark.TheVariants.{CN, FN, BD, ND, GV, AT, MK, CL, TL, OP, LK, BR, NU, AR, IF, Other}
+use Rattle.meaning.specs.Marks.{marks, names, find, row, rows, row_at, code, place_of, number_of, mark_of, find_mark}
 use Rattle.meaning.specs.Keys.{key_of, place_in, by_key}
 
 -- the greatest of a column, with the row of zeros behind the table
@@ -42,18 +44,18 @@ pub data Each (P : Mark → Type 0) (w : ℕ) : List (ℕ × Mark) → Type 0 wh
   none : Each P w []
   more : {k : ℕ} {m : Mark} {table : List (ℕ × Mark)} → (w ≡ k → P m) → Each P w table → Each P w ((k, m) ∷ table)
 
-found : {P : Mark → Type 0} {w : ℕ} {table : List (ℕ × Mark)} → Each P w table → P other → P (find w table other)
+found : {P : Mark → Type 0} {w : ℕ} {table : List (ℕ × Mark)} → Each P w table → P Other → P (find w table Other)
 found none d = d
 found {P} {w} (more {k} {m} {table} h t) d = go (found t d) (eqb w k) refl
   where
-    go : P (find w table other) → (x : Bool) → eqb w k ≡ x → P (find w ((k, m) ∷ table) other)
+    go : P (find w table Other) → (x : Bool) → eqb w k ≡ x → P (find w ((k, m) ∷ table) Other)
     go rest true e = rw (e, find) (h (eqb-true w k e))
     go rest false e = rw (e, find) rest
 
 -- the mark with a key is one of the table, or none
 key_mark : (ms : List Mark) (k : ℕ) → (m : Mark) × (place_in ms k ≡ place_of m)
 unfolding place_in
-key_mark [] k = (other, refl)
+key_mark [] k = (Other, refl)
 key_mark (m ∷ ms) k = go (key_mark ms k) (eqb k (key_of (code m))) refl
   where
     go : ((n : Mark) × (place_in ms k ≡ place_of n)) → (x : Bool) → eqb k (key_of (code m)) ≡ x → (n : Mark) × (place_in (m ∷ ms) k ≡ place_of n)
@@ -88,7 +90,7 @@ row_mark BR = refl
 row_mark NU = refl
 row_mark AR = refl
 row_mark IF = refl
-row_mark other = refl
+row_mark Other = refl
 
 -- a mark that is the row's of its key stands there in the table
 pub by_row : (w : ℕ) → (row_at (by_key (key_of w))).mark ≡ w → by_key (key_of w) ≡ find_mark w
@@ -156,3 +158,43 @@ is_BR w = go (eqb w 16978) refl
     go : (x : Bool) → eqb w 16978 ≡ x → eqb (find_mark w) 11 ≡ x
     go true e = simp (eqb-true w 16978 e)
     go false e = found {P = λ m. eqb (number_of m) 11 ≡ false} {w = w} {table = marks} (more (λ _. refl) (more (λ _. refl) (more (λ _. refl) (more (λ _. refl) (more (λ _. refl) (more (λ _. refl) (more (λ _. refl) (more (λ _. refl) (more (λ _. refl) (more (λ _. refl) (more (λ _. refl) (more (λ z. absurd (eqb-false w 16978 e z)) (more (λ _. refl) (more (λ _. refl) (more (λ _. refl) (none)))))))))))))))) refl
+
+-- a mark by its place, and so one mark for one place
+by_place : (m : Mark) → get_or names (place_of m) Other ≡ m
+by_place CN = refl
+by_place FN = refl
+by_place BD = refl
+by_place ND = refl
+by_place GV = refl
+by_place AT = refl
+by_place MK = refl
+by_place CL = refl
+by_place TL = refl
+by_place OP = refl
+by_place LK = refl
+by_place BR = refl
+by_place NU = refl
+by_place AR = refl
+by_place IF = refl
+by_place Other = refl
+
+pub one_place : (m n : Mark) → place_of m ≡ place_of n → m ≡ n
+one_place m n e = sym (by_place m) ∙ ap (λ i. get_or names i Other) e ∙ by_place n
+
+pub place_below : (m : Mark) → place_of m ≤ 15
+place_below CN = omega arith
+place_below FN = omega arith
+place_below BD = omega arith
+place_below ND = omega arith
+place_below GV = omega arith
+place_below AT = omega arith
+place_below MK = omega arith
+place_below CL = omega arith
+place_below TL = omega arith
+place_below OP = omega arith
+place_below LK = omega arith
+place_below BR = omega arith
+place_below NU = omega arith
+place_below AR = omega arith
+place_below IF = omega arith
+place_below Other = omega arith

@@ -1,5 +1,11 @@
 -- The answers as the code gives them, with document 01's number and values for each case; what `check` and `run` promise. Assumes nothing.
-use Rattle.std.specs.Prelude.{ℕ, ◌&&◌, List, ◌++◌, length, drop, replicate, ltb, leb, eqb}
+use Rattle.std.specs.Prelude.{ℕ, ◌&&◌, List, ◌++◌, length, drop, replicate, ltb, leb, eqb, Result, Ok, Err}
+use Rattle.meaning.specs.declared.Fault.{Fault}
+use Rattle.meaning.specs.declared.Refusal.{Refusal}
+use Rattle.meaning.specs.declared.Shape.TheVariants as told_shape
+use Rattle.meaning.specs.declared.Shape as code
+use Rattle.meaning.specs.declared.RunEnd.{RunEnd}
+use Rattle.meaning.specs.declared.Ran.{Ran}
 use Rattle.meaning.specs.declared.Verdict.{Verdict}
 use Rattle.meaning.specs.declared.Verdict.TheVariants as verdict
 use Rattle.meaning.specs.declared.End.{End}
@@ -72,3 +78,49 @@ answered a work =
 -- what `run` answers and leaves
 unfoldable pub run_of : (file args : List ℕ) → Store → (work : List ℕ) → (budget : ℕ) → Ended
 run_of file args store work budget = answered (answer_to file (length work) args store budget) work
+
+-- each fault's number in the table
+abbrev pub fault_number : Fault → ℕ
+fault_number Fault.TooLong = 1
+fault_number Fault.EndsEarly = 2
+fault_number Fault.MarkNotAllowed = 3
+fault_number Fault.OutOfRange = 4
+fault_number Fault.LimitPassed = 5
+fault_number Fault.BytesBehind = 6
+fault_number Fault.NotBound = 7
+fault_number Fault.WrongKind = 8
+fault_number Fault.Used = 9
+fault_number Fault.OtherSize = 10
+fault_number Fault.LeftOver = 11
+fault_number Fault.ConstructorTwice = 12
+fault_number Fault.WrongSize = 20
+fault_number Fault.WrongCount = 21
+fault_number Fault.Malformed = 22
+fault_number Fault.NamedTwice = 23
+fault_number Fault.ReachesItself = 24
+
+-- the verdict that `check` gives, by its cases
+abbrev pub as_verdict : Result code.Shape Refusal → Verdict
+as_verdict (Ok (told_shape.Flat d r)) = verdict.Flat d r
+as_verdict (Ok (told_shape.Stacked r)) = verdict.Stacked r
+as_verdict (Err f) = verdict.Refused (fault_number f.fault) f.place
+
+-- the end of a run that was made, and its value: 0 where it has none
+abbrev pub as_end : RunEnd → End
+as_end (RunEnd.Done v) = end.Done
+as_end RunEnd.NoBranch = end.NoBranch
+as_end RunEnd.BudgetSpent = end.BudgetSpent
+as_end RunEnd.NoFrame = end.NoFrame
+as_end RunEnd.OutOfRange = end.OutOfRange
+
+abbrev pub value_of : RunEnd → ℕ
+value_of (RunEnd.Done v) = v
+value_of RunEnd.NoBranch = 0
+value_of RunEnd.BudgetSpent = 0
+value_of RunEnd.NoFrame = 0
+value_of RunEnd.OutOfRange = 0
+
+-- the answer that `run` gives, by its cases
+abbrev pub as_answer : Result Ran Refusal → Answer
+as_answer (Ok r) = record { end = as_end r.end; value = value_of r.end; steps = r.steps; place = r.place; frames = r.frames }
+as_answer (Err f) = record { end = end.Refused (fault_number f.fault); value = 0; steps = 0; place = f.place; frames = 0 }

@@ -1,7 +1,8 @@
 -- How a mark is found in the table: by a key that is another for each of its marks. Worked out, not believed: the code's `find_mark` promises
 -- that of Marks. Assumes nothing.
 use Rattle.std.specs.Prelude.{ℕ, ◌+◌, ◌*◌, ◌/◌, ◌%◌, true, false, List, [], ◌∷◌, eqb}
-use Rattle.meaning.specs.Marks.{Mark, names, place_of, code}
+use Rattle.meaning.specs.declared.Mark.{Mark}
+use Rattle.meaning.specs.Marks.{names, place_of, code}
 
 -- the first letter and four times the second, below 64
 abbrev pub key_of : (mark : ℕ) → ℕ

@@ -2,9 +2,8 @@
 -- the count of slots that it binds. The code's own table is this one (`mark_row`), and every pass looks it up. Assumes nothing.
 use Rattle.std.specs.Prelude.{ℕ, ◌+◌, true, false, List, [], ◌∷◌, get_or, eqb}
 use Rattle.meaning.specs.declared.MarkRow.{MarkRow}
-
-pub data Mark : Type 0 where
-  CN FN BD ND GV AT MK CL TL OP LK BR NU AR IF other : Mark
+use Rattle.meaning.specs.declared.Mark.{Mark}
+use Rattle.meaning.specs.declared.Mark.TheVariants.{CN, FN, BD, ND, GV, AT, MK, CL, TL, OP, LK, BR, NU, AR, IF, Other}
 
 abbrev pub row : (mark fields binds : ℕ) → MarkRow
 row m f b = record { mark = m; fields = f; binds = b }
@@ -63,7 +62,7 @@ place_of BR = 11
 place_of NU = 12
 place_of AR = 13
 place_of IF = 14
-place_of other = 15
+place_of Other = 15
 
 unfoldable pub number_of : Mark → ℕ
 number_of m = place_of m
@@ -83,7 +82,7 @@ binds m = binds_at (place_of m)
 
 -- the mark of two bytes as one number
 unfoldable pub mark_of : ℕ → Mark
-mark_of w = find w marks other
+mark_of w = find w marks Other
 
 unfoldable pub find_mark : ℕ → ℕ
 find_mark w = number_of (mark_of w)

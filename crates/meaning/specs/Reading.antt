@@ -5,7 +5,9 @@ use Rattle.std.proofs.Math.Option.{none, some}
 use Rattle.std.proofs.Math.ListN.{get_elem?}
 use Rattle.meaning.specs.Syntax.{Sort, Mode, Signature, Term, Branches, Constructor, File}
 use Rattle.meaning.specs.Outcome.{Outcome, ok, refuse, then}
-use Rattle.meaning.specs.Marks.{Mark, CN, FN, BD, ND, GV, AT, MK, CL, TL, OP, LK, BR, NU, AR, IF, other, find, marks, code, binds}
+use Rattle.meaning.specs.declared.Mark.{Mark}
+use Rattle.meaning.specs.declared.Mark.TheVariants.{CN, FN, BD, ND, GV, AT, MK, CL, TL, OP, LK, BR, NU, AR, IF, Other}
+use Rattle.meaning.specs.Marks.{find, marks, code, binds}
 
 abbrev pub Reader : Type 0 → Type 0
 Reader A = ℕ → List ℕ → Outcome (A × ℕ × List ℕ)
@@ -56,7 +58,7 @@ unfoldable pub mark : Reader Mark
 mark = do
   a ← byte
   b ← byte
-  return (find (a * 256 + b) marks other)
+  return (find (a * 256 + b) marks Other)
 
 -- 3, at the mark: "a mark not allowed here"; only this one is
 unfoldable pub expect : (code : ℕ) → Reader (Unit {0})
@@ -207,7 +209,7 @@ module _ (constructors : List Constructor) (functions : List Signature) where
   node term branches slots nodes p BD = fail 3 p
   node term branches slots nodes p ND = fail 3 p
   node term branches slots nodes p BR = fail 3 p
-  node term branches slots nodes p other = fail 3 p
+  node term branches slots nodes p Other = fail 3 p
 
   -- "a term holds the terms that follow it; a term holds branches and a branch holds a term". `fuel` is more than the bytes left
   unfoldable mutual
@@ -301,7 +303,7 @@ entry header size cs p BR fs = fail 3 p
 entry header size cs p NU fs = fail 3 p
 entry header size cs p AR fs = fail 3 p
 entry header size cs p IF fs = fail 3 p
-entry header size cs p other fs = fail 3 p
+entry header size cs p Other fs = fail 3 p
 
 unfoldable pub header : (fuel size : ℕ) → List Constructor → List Signature → Reader File
 header zero size cs fs = λ at bytes. refuse 2 at

@@ -2,11 +2,33 @@
 #![tactic(auto)]
 
 ghost use Rattle.std.specs.Prelude.{◌≡◌, ◌<◌, ◌≤◌};
-ghost use Rattle.meaning.specs.Marks.{row_at, size_at, binds_at, find_mark};
+ghost use Rattle.meaning.specs.Marks.{place_of, row_at, size_at, binds_at, find_mark};
 ghost use Rattle.meaning.specs.Keys.{key_of, by_key};
+ghost use Rattle.meaning.specs.Answers.{fault_number};
+
+// The mark of a record, in the order of the table of marks; or of none.
+#[derive(Clone, Copy, Debug, PartialEq, Eq)]
+pub enum Mark {
+    CN,
+    FN,
+    BD,
+    ND,
+    GV,
+    AT,
+    MK,
+    CL,
+    TL,
+    OP,
+    LK,
+    BR,
+    NU,
+    AR,
+    IF,
+    Other,
+}
 
 // A record's mark, the count of its fixed fields in bytes, and the count of slots that it binds.
-#[derive(Clone, Copy)]
+#[derive(Clone, Copy, Debug, PartialEq, Eq)]
 pub struct MarkRow {
     pub mark: u16,
     pub fields: u8,
@@ -94,7 +116,7 @@ const MARKS: [MarkRow; 15] = [
 // The bytes of a mark.
 pub const MARK: usize = 2;
 
-// A mark's place in the table; 15 stands for no mark of the table, and 16 for a file that ends within the mark.
+// The place of a mark in the table; 15 stands for no mark of the table, and 16 for a file that ends within the mark.
 pub const CN: usize = 0;
 
 pub const FN: usize = 1;
@@ -146,138 +168,130 @@ pub const FIELDS: u8 = 4;
 
 pub const PARAMETERS: u8 = 8;
 
-// A byte as a count.
-fn wide(b: u8) -> usize
-    ensures { result ≡ b }
-{
-    b as usize
-}
+// The table where it is looked up.
+static TABLE: [MarkRow; 15] = MARKS;
 
-// The row at a place within the table.
-fn table_row(i: usize) -> MarkRow
-    requires { i < 15 }
-    ensures { result ≡ row_at i }
-{
-    MARKS[i]
-}
-
-// The row at a place in the table of marks; past the table, a row of zeros. Each arm asks for a known place, so that no table is laid out on the way.
+// The row at a place in the table of marks; past the table, a row of zeros.
+#[tactic(auto, unfolding(crate::specs::Marks::row_at))]
 pub fn mark_row(i: usize) -> MarkRow
     ensures { result ≡ row_at i }
 {
-    match i {
-        CN => table_row(CN),
-        FN => table_row(FN),
-        BD => table_row(BD),
-        ND => table_row(ND),
-        GV => table_row(GV),
-        AT => table_row(AT),
-        MK => table_row(MK),
-        CL => table_row(CL),
-        TL => table_row(TL),
-        OP => table_row(OP),
-        LK => table_row(LK),
-        BR => table_row(BR),
-        NU => table_row(NU),
-        AR => table_row(AR),
-        IF => table_row(IF),
-        _ => MarkRow {
-            mark: 0,
-            fields: 0,
-            binds: 0,
-        },
+    TABLE.get(i).copied().unwrap_or(MarkRow {
+        mark: 0,
+        fields: 0,
+        binds: 0,
+    })
+}
+
+impl Mark {
+    // The mark's place in the table, 15 for none.
+    pub fn place(self) -> usize
+        ensures { result ≡ place_of self }
+    {
+        self as usize
+    }
+
+    // The mark's row in the table.
+    pub fn row(self) -> MarkRow
+        ensures { result ≡ row_at (place_of self) }
+    {
+        mark_row(self.place())
     }
 }
 
 // How many slots a record binds; a branch binds by its constructor, and its row says 0.
+#[tactic(auto, unfolding(crate::specs::Marks::row_at))]
 pub fn binds(i: usize) -> usize
     ensures { (result ≡ binds_at i) × (result ≤ 5) }
 {
-    let row = mark_row(i);
-    wide(row.binds)
+    usize::from(mark_row(i).binds)
 }
 
 // The bytes of a record's mark and fixed fields.
+#[tactic(auto, unfolding(crate::specs::Marks::row_at))]
 pub fn size(i: usize) -> usize
     ensures { (result ≡ size_at i) × (result ≤ 5) }
 {
-    let row = mark_row(i);
-    MARK + wide(row.fields)
+    MARK + usize::from(mark_row(i).fields)
 }
 
 // A mark's key is below 64, and another for each mark of the table: its first letter and four times its second.
-const CN_KEY: u16 = (MARKS[CN].mark / 256 + MARKS[CN].mark % 256 * 4) % 64;
+const CN_KEY: u16 = (MARKS[0].mark / 256 + MARKS[0].mark % 256 * 4) % 64;
 
-const FN_KEY: u16 = (MARKS[FN].mark / 256 + MARKS[FN].mark % 256 * 4) % 64;
+const FN_KEY: u16 = (MARKS[1].mark / 256 + MARKS[1].mark % 256 * 4) % 64;
 
-const BD_KEY: u16 = (MARKS[BD].mark / 256 + MARKS[BD].mark % 256 * 4) % 64;
+const BD_KEY: u16 = (MARKS[2].mark / 256 + MARKS[2].mark % 256 * 4) % 64;
 
-const ND_KEY: u16 = (MARKS[ND].mark / 256 + MARKS[ND].mark % 256 * 4) % 64;
+const ND_KEY: u16 = (MARKS[3].mark / 256 + MARKS[3].mark % 256 * 4) % 64;
 
-const GV_KEY: u16 = (MARKS[GV].mark / 256 + MARKS[GV].mark % 256 * 4) % 64;
+const GV_KEY: u16 = (MARKS[4].mark / 256 + MARKS[4].mark % 256 * 4) % 64;
 
-const AT_KEY: u16 = (MARKS[AT].mark / 256 + MARKS[AT].mark % 256 * 4) % 64;
+const AT_KEY: u16 = (MARKS[5].mark / 256 + MARKS[5].mark % 256 * 4) % 64;
 
-const MK_KEY: u16 = (MARKS[MK].mark / 256 + MARKS[MK].mark % 256 * 4) % 64;
+const MK_KEY: u16 = (MARKS[6].mark / 256 + MARKS[6].mark % 256 * 4) % 64;
 
-const CL_KEY: u16 = (MARKS[CL].mark / 256 + MARKS[CL].mark % 256 * 4) % 64;
+const CL_KEY: u16 = (MARKS[7].mark / 256 + MARKS[7].mark % 256 * 4) % 64;
 
-const TL_KEY: u16 = (MARKS[TL].mark / 256 + MARKS[TL].mark % 256 * 4) % 64;
+const TL_KEY: u16 = (MARKS[8].mark / 256 + MARKS[8].mark % 256 * 4) % 64;
 
-const OP_KEY: u16 = (MARKS[OP].mark / 256 + MARKS[OP].mark % 256 * 4) % 64;
+const OP_KEY: u16 = (MARKS[9].mark / 256 + MARKS[9].mark % 256 * 4) % 64;
 
-const LK_KEY: u16 = (MARKS[LK].mark / 256 + MARKS[LK].mark % 256 * 4) % 64;
+const LK_KEY: u16 = (MARKS[10].mark / 256 + MARKS[10].mark % 256 * 4) % 64;
 
-const BR_KEY: u16 = (MARKS[BR].mark / 256 + MARKS[BR].mark % 256 * 4) % 64;
+const BR_KEY: u16 = (MARKS[11].mark / 256 + MARKS[11].mark % 256 * 4) % 64;
 
-const NU_KEY: u16 = (MARKS[NU].mark / 256 + MARKS[NU].mark % 256 * 4) % 64;
+const NU_KEY: u16 = (MARKS[12].mark / 256 + MARKS[12].mark % 256 * 4) % 64;
 
-const AR_KEY: u16 = (MARKS[AR].mark / 256 + MARKS[AR].mark % 256 * 4) % 64;
+const AR_KEY: u16 = (MARKS[13].mark / 256 + MARKS[13].mark % 256 * 4) % 64;
 
-const IF_KEY: u16 = (MARKS[IF].mark / 256 + MARKS[IF].mark % 256 * 4) % 64;
+const IF_KEY: u16 = (MARKS[14].mark / 256 + MARKS[14].mark % 256 * 4) % 64;
 
-// The place in the table of the mark with a key, if there is one.
-fn by_key(key: u16) -> usize
-    ensures { result ≡ by_key key }
+// The mark with a key, if there is one in the table.
+#[tactic(auto, unfolding(crate::specs::Keys::by_key, crate::specs::Keys::place_in))]
+fn by_key(key: u16) -> Mark
+    ensures { place_of result ≡ by_key key }
 {
     match key {
-        CN_KEY => CN,
-        FN_KEY => FN,
-        BD_KEY => BD,
-        ND_KEY => ND,
-        GV_KEY => GV,
-        AT_KEY => AT,
-        MK_KEY => MK,
-        CL_KEY => CL,
-        TL_KEY => TL,
-        OP_KEY => OP,
-        LK_KEY => LK,
-        BR_KEY => BR,
-        NU_KEY => NU,
-        AR_KEY => AR,
-        IF_KEY => IF,
-        _ => OTHER,
+        CN_KEY => Mark::CN,
+        FN_KEY => Mark::FN,
+        BD_KEY => Mark::BD,
+        ND_KEY => Mark::ND,
+        GV_KEY => Mark::GV,
+        AT_KEY => Mark::AT,
+        MK_KEY => Mark::MK,
+        CL_KEY => Mark::CL,
+        TL_KEY => Mark::TL,
+        OP_KEY => Mark::OP,
+        LK_KEY => Mark::LK,
+        BR_KEY => Mark::BR,
+        NU_KEY => Mark::NU,
+        AR_KEY => Mark::AR,
+        IF_KEY => Mark::IF,
+        _ => Mark::Other,
     }
 }
 
-// The place in the table of the mark that has this mark's key: its own place, if it is one of the table.
-pub fn keyed_mark(mark: u16) -> usize
-    ensures { result ≡ by_key (key_of mark) }
+// The mark of the table that has this mark's key: itself, if it is one of the table.
+pub fn keyed_mark(mark: u16) -> Mark
+    ensures { place_of result ≡ by_key (key_of mark) }
 {
     by_key((mark / 256 + mark % 256 * 4) % 64)
 }
 
-// The place of a mark in the table, or 15: by its key, and then by its row.
-pub fn find_mark(mark: u16) -> usize
-    ensures { result ≡ find_mark mark }
+// The mark of two bytes as one number: by its key, and then by its row.
+pub fn find_mark(mark: u16) -> Mark
+    ensures { place_of result ≡ find_mark mark }
 {
-    let place = keyed_mark(mark);
-    let row = mark_row(place);
-    if row.mark == mark { place } else { OTHER }
+    let keyed = keyed_mark(mark);
+    if keyed.row().mark == mark {
+        keyed
+    } else {
+        Mark::Other
+    }
 }
 
 // A slot is a number, lent, owned, a credit of a size, or used; a used one keeps the kind that it had.
-#[derive(Clone, Copy)]
+#[derive(Clone, Copy, Debug, PartialEq, Eq)]
 pub enum Kind {
     Number,
     Lent,
@@ -288,14 +302,14 @@ pub enum Kind {
 }
 
 // A slot with the place of the mark that bound it.
-#[derive(Clone, Copy)]
+#[derive(Clone, Copy, Debug, PartialEq, Eq)]
 pub struct Slot {
     pub kind: Kind,
     pub place: u16,
 }
 
 // How one function calls another: not at all, by tail calls only, or by a call that waits.
-#[derive(Clone, Copy)]
+#[derive(Clone, Copy, Debug, PartialEq, Eq)]
 pub enum How {
     Never,
     Tail,
@@ -303,15 +317,98 @@ pub enum How {
 }
 
 // A call written in a body.
-#[derive(Clone, Copy)]
+#[derive(Clone, Copy, Debug, PartialEq, Eq)]
 pub struct Call {
     pub caller: usize,
     pub callee: usize,
     pub how: How,
 }
 
+// Why a file or a start is refused, in the order of document 01's table of answers.
+#[derive(Clone, Copy, Debug, PartialEq, Eq)]
+pub enum Fault {
+    TooLong,
+    EndsEarly,
+    MarkNotAllowed,
+    OutOfRange,
+    LimitPassed,
+    BytesBehind,
+    NotBound,
+    WrongKind,
+    Used,
+    OtherSize,
+    LeftOver,
+    ConstructorTwice,
+    WrongSize,
+    WrongCount,
+    Malformed,
+    NamedTwice,
+    ReachesItself,
+}
+
+impl Fault {
+    // The fault's number in document 01's table.
+    pub fn number(self) -> u32
+        ensures { result ≡ fault_number self }
+    {
+        match self {
+            Fault::TooLong => 1,
+            Fault::EndsEarly => 2,
+            Fault::MarkNotAllowed => 3,
+            Fault::OutOfRange => 4,
+            Fault::LimitPassed => 5,
+            Fault::BytesBehind => 6,
+            Fault::NotBound => 7,
+            Fault::WrongKind => 8,
+            Fault::Used => 9,
+            Fault::OtherSize => 10,
+            Fault::LeftOver => 11,
+            Fault::ConstructorTwice => 12,
+            Fault::WrongSize => 20,
+            Fault::WrongCount => 21,
+            Fault::Malformed => 22,
+            Fault::NamedTwice => 23,
+            Fault::ReachesItself => 24,
+        }
+    }
+}
+
+// A refusal: the first fault, and its place.
+#[derive(Clone, Copy, Debug, PartialEq, Eq)]
+pub struct Refusal {
+    pub fault: Fault,
+    pub place: u32,
+}
+
+// The shape of an accepted file: flat with its depth, or stacked, and how many functions are reached.
+#[derive(Clone, Copy, Debug, PartialEq, Eq)]
+pub enum Shape {
+    Flat { depth: u32, reached: u32 },
+    Stacked { reached: u32 },
+}
+
+// How a run ends that was made: with a value, with no branch that fits, with the budget spent, for want of a frame, or at a sum or a difference
+// outside 0..65,535.
+#[derive(Clone, Copy, Debug, PartialEq, Eq)]
+pub enum RunEnd {
+    Done(u32),
+    NoBranch,
+    BudgetSpent,
+    NoFrame,
+    OutOfRange,
+}
+
+// A run that was made: its end and the place of it, 0 where it is done; its steps, and the greatest number of frames.
+#[derive(Clone, Copy, Debug, PartialEq, Eq)]
+pub struct Ran {
+    pub end: RunEnd,
+    pub place: u32,
+    pub steps: u32,
+    pub frames: u32,
+}
+
 // The checker's verdict: flat with depth and functions reached, stacked with functions reached, or refused by a number at a place.
-#[derive(Clone, Copy)]
+#[derive(Clone, Copy, Debug, PartialEq, Eq)]
 pub enum Verdict {
     Flat(u32, u32),
     Stacked(u32),
@@ -320,7 +417,7 @@ pub enum Verdict {
 
 // How a run ends: with a value, by a refusal's number, with no branch that fits, with the budget spent, for want of a frame, or at a sum or a
 // difference outside 0..65,535.
-#[derive(Clone, Copy)]
+#[derive(Clone, Copy, Debug, PartialEq, Eq)]
 pub enum End {
     Done,
     Refused(u32),
@@ -331,7 +428,7 @@ pub enum End {
 }
 
 // The answer of a run.
-#[derive(Clone, Copy)]
+#[derive(Clone, Copy, Debug, PartialEq, Eq)]
 pub struct Answer {
     pub end: End,
     pub value: u32,

@@ -7,7 +7,8 @@ use native.Mathlib.Omega.{arith}
 use Rattle.meaning.specs.Syntax.{File}
 use Rattle.meaning.specs.Outcome.{ok}
 use Rattle.meaning.specs.Reading.{read}
-use Rattle.meaning.specs.Marks.{Mark, code}
+use Rattle.meaning.specs.declared.Mark.{Mark}
+use Rattle.meaning.specs.Marks.{code}
 use Rattle.meaning.specs.Plain.{place_of}
 use Rattle.meaning.specs.Machine.{body_of}
 use Rattle.standing.specs.Bytes.{mark_at}

@@ -12,7 +12,8 @@ use Rattle.meaning.specs.Syntax.{Signature, Term, File}
 use Rattle.meaning.specs.Outcome.{Outcome, then}
 use Rattle.meaning.specs.Reading.{ensure, expect, finish, between, term, bodies}
 use Rattle.meaning.specs.Ownership.{no_function}
-use Rattle.meaning.specs.Marks.{Mark, code}
+use Rattle.meaning.specs.declared.Mark.{Mark}
+use Rattle.meaning.specs.Marks.{code}
 use Rattle.meaning.specs.Plain.{place_of, no_body}
 use Rattle.standing.specs.Bytes.{mark_at}
 use Rattle.standing.specs.Stands.{Stands}

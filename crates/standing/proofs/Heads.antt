@@ -9,7 +9,9 @@ use native.Mathlib.Omega.{arith}
 use borrow.Author.Tests.{ltb-true, leb-true}
 use Rattle.meaning.specs.Syntax.{Signature, Constructor, Term, File}
 use Rattle.meaning.specs.Outcome.{Outcome, ok, refuse, then}
-use Rattle.meaning.specs.Marks.{Mark, CN, FN, BD, ND, GV, AT, MK, CL, TL, OP, LK, BR, NU, AR, IF, other, find, marks, code, mark_of}
+use Rattle.meaning.specs.declared.Mark.{Mark}
+use Rattle.meaning.specs.declared.Mark.TheVariants.{CN, FN, BD, ND, GV, AT, MK, CL, TL, OP, LK, BR, NU, AR, IF, Other}
+use Rattle.meaning.specs.Marks.{find, marks, code, mark_of}
 use Rattle.meaning.specs.Reading.{Reader, mark, constructor, signature, bodies, entry, header, read}
 use Rattle.standing.specs.Bytes.{mark_at}
 use Rattle.standing.specs.Table.{con_end, fun_end, Sorts}
@@ -141,13 +143,13 @@ module _ (f : List ℕ) where
     entry_told fs H NU m = untold
     entry_told fs H AR m = untold
     entry_told fs H IF m = untold
-    entry_told fs H other m = untold
+    entry_told fs H Other m = untold
 
   head_told : (n : ℕ) (cs : List Constructor) (fs : List Signature) (at : ℕ) → at ≤ length f → Heads cs fs at → Told (header n (length f) cs fs at (drop at f))
   unfolding header mark mark_of
   head_told zero cs fs at h H = untold
   head_told (suc n) cs fs at h H =
-      two_gen f Told (λ x y a b. ok (find (x * 256 + y) marks other, a, b)) at _ h (λ _. untold)
+      two_gen f Told (λ x y a b. ok (find (x * 256 + y) marks Other, a, b)) at _ h (λ _. untold)
       (λ l. entry_told cs at l (λ cs' fs'. header n (length f) cs' fs') (λ cs' fs' a h' H'. head_told n cs' fs' a h' H') fs H (mark_of (mark_at f at)) (named (mark_at f at)))
 
   nothing_read : Heads [] [] 0

@@ -10,7 +10,9 @@ use native.Mathlib.Omega.{arith}
 use borrow.Author.Tests.{leb-true, eqb-true}
 use Rattle.meaning.specs.Syntax.{Signature, Constructor, Term, Branches, File}
 use Rattle.meaning.specs.Outcome.{Outcome, ok, then}
-use Rattle.meaning.specs.Marks.{Mark, CN, FN, BD, ND, GV, AT, MK, CL, TL, OP, LK, BR, NU, AR, IF, other, find, marks, code, mark_of}
+use Rattle.meaning.specs.declared.Mark.{Mark}
+use Rattle.meaning.specs.declared.Mark.TheVariants.{CN, FN, BD, ND, GV, AT, MK, CL, TL, OP, LK, BR, NU, AR, IF, Other}
+use Rattle.meaning.specs.Marks.{find, marks, code, mark_of}
 use Rattle.meaning.specs.Reading.{Reader, byte, ensure, any, is_atom, is_node, credits, limits, node, mark, expect, term, branches}
 use Rattle.meaning.specs.Ownership.{no_function}
 use Rattle.meaning.specs.Plain.{place_of}
@@ -200,7 +202,7 @@ module _ (file : File) (f : List ℕ) where
     node_stands BD = λ _. refused
     node_stands ND = λ _. refused
     node_stands BR = λ _. refused
-    node_stands other = λ _. refused
+    node_stands Other = λ _. refused
 
   abbrev TermsStand : ℕ → Type 0
   TermsStand n = (s k a : ℕ) → a ≤ length f → Stood f (Good a s) (term cs fs n s k a (drop a f))
@@ -211,7 +213,7 @@ module _ (file : File) (f : List ℕ) where
   term_turn : (n : ℕ) → TermsStand n → ListsStand n → TermsStand (suc n)
   unfolding term mark mark_of
   term_turn n h_t h_b s k at h =
-      two_gen f (Stood f (Good at s)) (λ x y a b. ok (find (x * 256 + y) marks other, a, b)) at _ h (λ _. refused)
+      two_gen f (Stood f (Good at s)) (λ x y a b. ok (find (x * 256 + y) marks Other, a, b)) at _ h (λ _. refused)
       (λ l. node_stands at s k (λ s' k'. term cs fs n s' k') (λ c x s' k'. branches cs fs n c x s' k') h_t h_b l (mark_of (mark_at f at)) (named (mark_at f at)))
 
   branch : (at s b n : ℕ) (extra : Constructor → ℕ) (x : Constructor) (t : Term) (bs : Branches) → mark_at f at ≡ code BR → at + 3 ≤ length f → get_elem? cs (get_or f (at + 2) 0) ≡ some x

@@ -1,7 +1,8 @@
 -- Bytes and marks by their place in a file, and what the table of a file's declarations says. Assumes nothing.
-use Rattle.std.specs.Prelude.{ℕ, zero, suc, ◌+◌, ◌*◌, ◌/◌, ◌%◌, ◌<◌, List, [], ◌∷◌, ◌≡◌, length, get_or, ltb}
+use Rattle.std.specs.Prelude.{ℕ, zero, suc, ◌+◌, ◌*◌, ◌/◌, ◌%◌, ◌<◌, List, [], ◌∷◌, ◌≡◌, length, get_or, ltb, Option, None, Some}
 use Rattle.meaning.specs.Choice.{pick}
-use Rattle.meaning.specs.Marks.{find_mark}
+use Rattle.meaning.specs.declared.Mark.{Mark}
+use Rattle.meaning.specs.Marks.{place_of, find_mark}
 
 abbrev pub byte_at : List ℕ → ℕ → ℕ
 byte_at bytes p = get_or bytes p 0
@@ -13,6 +14,11 @@ mark_at bytes p = byte_at bytes p * 256 + byte_at bytes (p + 1)
 -- its place in the table of marks; 16 where the file ends within it
 unfoldable pub number_at : List ℕ → ℕ → ℕ
 number_at f at = pick (ltb (length f) (at + 2)) 16 (find_mark (mark_at f at))
+
+-- the same of a mark that was read; none where the file ends within it
+abbrev pub read_number : Option Mark → ℕ
+read_number None = 16
+read_number (Some m) = place_of m
 
 -- n bytes from a place on
 unfoldable pub bytes_at : List ℕ → ℕ → ℕ → List ℕ

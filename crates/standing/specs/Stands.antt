@@ -3,7 +3,8 @@
 use Rattle.std.specs.Prelude.{ℕ, suc, ◌+◌, ◌*◌, ◌≤◌, ◌<◌, List, [], ◌∷◌, ◌≡◌, length, get_or}
 use Rattle.meaning.specs.Syntax.{Term, Branches, Constructor, File}
 use Rattle.meaning.specs.Syntax as S
-use Rattle.meaning.specs.Marks.{Mark, code, size}
+use Rattle.meaning.specs.declared.Mark.{Mark}
+use Rattle.meaning.specs.Marks.{code, size}
 use Rattle.meaning.specs.Plain.{place_of}
 use Rattle.meaning.specs.Reading.{credits, bound}
 use Rattle.meaning.specs.Machine.{function_of}

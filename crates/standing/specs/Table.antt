@@ -1,7 +1,8 @@
 -- The table of a file's declarations, and what stands in a file that was read with that table. Assumes nothing.
 use Rattle.std.specs.Prelude.{ℕ, ◌+◌, ◌-◌, ◌*◌, ◌≤◌, ◌<◌, List, [], ◌∷◌, ◌++◌, map, ◌≡◌, length, get_or, replicate}
 use Rattle.meaning.specs.Syntax.{Sort, Mode, Signature, Constructor, File}
-use Rattle.meaning.specs.Marks.{Mark, size, mark_size}
+use Rattle.meaning.specs.declared.Mark.{Mark}
+use Rattle.meaning.specs.Marks.{size, mark_size}
 use Rattle.meaning.specs.Plain.{place_of}
 use Rattle.meaning.specs.Machine.{function_of, body_of}
 use Rattle.standing.specs.Bytes.{byte_at, arity_in, fields_in, params_in, modes_in, body_in}

@@ -9,7 +9,9 @@ use lib.ListN.{length, get_or, get_elem?}
 use lib.Dec.{ltb, leb, eqb}
 use Rattle.meaning.specs.Syntax.{Signature, Term, Branches, Constructor, File}
 use Rattle.meaning.specs.Syntax as S
-use Rattle.meaning.specs.Marks.{Mark, CN, FN, BD, ND, GV, AT, MK, CL, TL, OP, LK, BR, NU, AR, IF, other, code}
+use Rattle.meaning.specs.declared.Mark.{Mark}
+use Rattle.meaning.specs.declared.Mark.TheVariants.{CN, FN, BD, ND, GV, AT, MK, CL, TL, OP, LK, BR, NU, AR, IF, Other}
+use Rattle.meaning.specs.Marks.{code}
 use Rattle.meaning.specs.Outcome.{Outcome, ok, refuse, then}
 use Rattle.meaning.specs.Reading.{Reader, byte, ensure, fail, below, times, mark, expect, sort, mode, declared, any, is_atom, is_node, credits, limits, node, term, branches, constructor, signature, finish, between, bodies, entry, header, read}
 use Rattle.meaning.specs.Ownership.{no_function}
@@ -163,7 +165,7 @@ module _ (cs : List Constructor) (fs : List Signature) where
   node_reads t bs it ib slots nodes p BD at bytes = Told.bad {n = 3} (omega arith) (omega arith)
   node_reads t bs it ib slots nodes p ND at bytes = Told.bad {n = 3} (omega arith) (omega arith)
   node_reads t bs it ib slots nodes p BR at bytes = Told.bad {n = 3} (omega arith) (omega arith)
-  node_reads t bs it ib slots nodes p other at bytes = Told.bad {n = 3} (omega arith) (omega arith)
+  node_reads t bs it ib slots nodes p Other at bytes = Told.bad {n = 3} (omega arith) (omega arith)
 
   mutual
     unfolding term
@@ -265,7 +267,7 @@ module _ (h : List Constructor → List Signature → Reader File) (size : ℕ) 
   entry_reads NU fs at bytes = Told.bad {n = 3} (omega arith) (omega arith)
   entry_reads AR fs at bytes = Told.bad {n = 3} (omega arith) (omega arith)
   entry_reads IF fs at bytes = Told.bad {n = 3} (omega arith) (omega arith)
-  entry_reads other fs at bytes = Told.bad {n = 3} (omega arith) (omega arith)
+  entry_reads Other fs at bytes = Told.bad {n = 3} (omega arith) (omega arith)
 
 header_reads : (n size : ℕ) (cs : List Constructor) (fs : List Signature) → Reads Shaped (header n size cs fs)
 unfolding header

@@ -10,7 +10,9 @@ use borrow.Author.Tests.{ltb-true}
 use lib.Dec.{ltb, leb}
 use Rattle.meaning.specs.Syntax.{Sort, Signature, Term, Branches, Constructor, File}
 use Rattle.meaning.specs.Outcome.{Outcome, ok, refuse, ◌>>=◌}
-use Rattle.meaning.specs.Marks.{Mark, CN, FN, BD, ND, GV, AT, MK, CL, TL, OP, LK, BR, NU, AR, IF, other, code}
+use Rattle.meaning.specs.declared.Mark.{Mark}
+use Rattle.meaning.specs.declared.Mark.TheVariants.{CN, FN, BD, ND, GV, AT, MK, CL, TL, OP, LK, BR, NU, AR, IF, Other}
+use Rattle.meaning.specs.Marks.{code}
 use Rattle.meaning.specs.Reading.{Reader, byte, ensure, below, times, mark, expect, declared, any, is_atom, is_node, credits, limits, node, term, branches, fail, bodies, between, finish, entry, header, read, constructor, signature, sort}
 use Rattle.meaning.specs.Plain.{no_body}
 use Rattle.meaning.specs.Ownership.{check_file}
@@ -139,7 +141,7 @@ module _ (cs : List Constructor) (fs : List Signature) (few : length cs ≤ 64) 
   node_formed t bs it ib slots nodes p BD at bytes r e = absurd (refused e)
   node_formed t bs it ib slots nodes p ND at bytes r e = absurd (refused e)
   node_formed t bs it ib slots nodes p BR at bytes r e = absurd (refused e)
-  node_formed t bs it ib slots nodes p other at bytes r e = absurd (refused e)
+  node_formed t bs it ib slots nodes p Other at bytes r e = absurd (refused e)
 
   mutual
     unfolding term
@@ -302,7 +304,7 @@ entry_well h size cs p BR fs at bytes few fewer small ih r e = absurd (refused e
 entry_well h size cs p NU fs at bytes few fewer small ih r e = absurd (refused e)
 entry_well h size cs p AR fs at bytes few fewer small ih r e = absurd (refused e)
 entry_well h size cs p IF fs at bytes few fewer small ih r e = absurd (refused e)
-entry_well h size cs p other fs at bytes few fewer small ih r e = absurd (refused e)
+entry_well h size cs p Other fs at bytes few fewer small ih r e = absurd (refused e)
 
 header_well : (n size : ℕ) (cs : List Constructor) (fs : List Signature) (at : ℕ) (bytes : List ℕ) → length cs ≤ 64 → length fs ≤ 32 → Small cs → ReadsWell (header n size cs fs at bytes)
 unfolding header

@@ -15,7 +15,9 @@ use Rattle.meaning.specs.Syntax.{Sort, Signature, Constructor, Term, File}
 use Rattle.meaning.specs.Outcome.{Outcome, ok, refuse, then}
 use Rattle.meaning.specs.Plain.{place_of, no_body}
 use Rattle.meaning.specs.Machine.{body_of}
-use Rattle.meaning.specs.Marks.{Mark, CN, FN, BD, ND, code, number_of, mark_of, find_mark}
+use Rattle.meaning.specs.declared.Mark.{Mark}
+use Rattle.meaning.specs.declared.Mark.TheVariants.{CN, FN, BD, ND}
+use Rattle.meaning.specs.Marks.{code, number_of, mark_of, find_mark}
 use Rattle.meaning.specs.Reading.{ensure, expect, term, header, bodies, between, finish, read}
 use Rattle.meaning.proofs.Table.{is_BD, is_ND}
 use Rattle.theory.proofs.Taking.{steps_ok}

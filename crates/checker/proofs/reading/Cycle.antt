@@ -11,7 +11,8 @@ use borrow.Author.Tests.{leb-true, leb-false, le-leb, lt-leb, lt-ltb, le-ltb, ne
 use Rattle.meaning.specs.Syntax.{Signature, Constructor}
 use Rattle.meaning.specs.Outcome.{ok}
 use Rattle.meaning.specs.Reading.{ensure, any, limits, mark, expect, term, branches}
-use Rattle.meaning.specs.Marks.{BR, code, find, marks, other, mark_of, find_mark}
+use Rattle.meaning.specs.declared.Mark.TheVariants.{BR, Other}
+use Rattle.meaning.specs.Marks.{code, find, marks, mark_of, find_mark}
 use Rattle.checker.specs.declared.reading.Path.{Path}
 use Rattle.checker.specs.declared.reading.Read.{Read}
 use Rattle.checker.specs.declared.reading.Read.TheVariants.{Next, Fault}
@@ -89,7 +90,7 @@ module _ (f d : List ℕ) (cs : List Constructor) (fs : List Signature) (D : Dec
       → Spans f (suc at) (term cs fs (suc n) p.slots p.nodes at (drop at f)) (by_node (node_at f d at p) (t_of f cs fs n) (b_of f cs fs n))
   unfolding term mark node_at pick find_mark mark_of by_node by_follow
   term_turn n h_t h_b p at h =
-      two_law f (suc at) _ (λ x y a b. ok (find (x * 256 + y) marks other, a, b)) at _ h short
+      two_law f (suc at) _ (λ x y a b. ok (find (x * 256 + y) marks Other, a, b)) at _ h short
       (λ l. subst (Spans f (suc at) _) (sym (long l))
       (node_spans f d cs fs D at p (t_of f cs fs n) (b_of f cs fs n) (λ s k. term cs fs n s k) (λ c x s k. branches cs fs n c x s k) h_t lists l (mark_of (mark_at f at))))
     where

@@ -10,7 +10,9 @@ use borrow.Author.Tests.{ltb-true, ltb-false, le-leb, lt-leb, lt-ltb, le-ltb}
 use Rattle.meaning.specs.Syntax.{Sort, Mode, Signature, Constructor, File}
 use Rattle.meaning.specs.Outcome.{Outcome, ok, refuse, then}
 use Rattle.meaning.specs.Reading.{Reader, ensure, below, times, sort, mode, constructor, signature, mark, entry, header, bodies}
-use Rattle.meaning.specs.Marks.{find, marks, Mark, CN, FN, BD, ND, GV, AT, MK, CL, TL, OP, LK, BR, NU, AR, IF, other, mark_of}
+use Rattle.meaning.specs.declared.Mark.{Mark}
+use Rattle.meaning.specs.declared.Mark.TheVariants.{CN, FN, BD, ND, GV, AT, MK, CL, TL, OP, LK, BR, NU, AR, IF, Other}
+use Rattle.meaning.specs.Marks.{find, marks, mark_of}
 use Rattle.checker.specs.declared.reading.Read.{Read}
 use Rattle.checker.specs.declared.reading.Read.TheVariants.{Next, Fault}
 use Rattle.meaning.specs.Choice.{pick}
@@ -159,14 +161,14 @@ module _ (f : List ℕ) where
       → header (suc n) size cs fs at (drop at f) ≡ entry (λ cs' fs'. header n size cs' fs') size cs at (mark_of (mark_at f at)) fs (at + 2) (drop (at + 2) f)
   unfolding header mark mark_of
   head_turn n size cs fs at h =
-      two_gen f (λ o. o ≡ entry (λ cs' fs'. header n size cs' fs') size cs at (mark_of (mark_at f at)) fs (at + 2) (drop (at + 2) f)) (λ x y a b. ok (find (x * 256 + y) marks other, a, b)) at _ (omega arith)
+      two_gen f (λ o. o ≡ entry (λ cs' fs'. header n size cs' fs') size cs at (mark_of (mark_at f at)) fs (at + 2) (drop (at + 2) f)) (λ x y a b. ok (find (x * 256 + y) marks Other, a, b)) at _ (omega arith)
       (λ l. absurd (omega arith)) (λ l. refl)
 
   pub head_short : (n size : ℕ) (cs : List Constructor) (fs : List Signature) (at : ℕ) → at ≤ length f → length f < at + 2
       → header (suc n) size cs fs at (drop at f) ≡ refuse 2 (length f)
   unfolding header mark
   head_short n size cs fs at h s =
-      two_gen f (λ o. o ≡ refuse 2 (length f)) (λ x y a b. ok (find (x * 256 + y) marks other, a, b)) at _ h (λ l. refl) (λ l. absurd (omega arith))
+      two_gen f (λ o. o ≡ refuse 2 (length f)) (λ x y a b. ok (find (x * 256 + y) marks Other, a, b)) at _ h (λ l. refl) (λ l. absurd (omega arith))
 
   module _ (size : ℕ) (cs : List Constructor) (at : ℕ) (h : at + 2 ≤ length f) (e : mark_of (mark_at f at) ≡ CN) where
     abbrev con_then : ℕ → Constructor × ℕ × List ℕ → Outcome (File × ℕ × List ℕ)
@@ -237,7 +239,7 @@ module _ (f : List ℕ) where
   entry_no H size cs at NU fs a bytes x y z = refl
   entry_no H size cs at AR fs a bytes x y z = refl
   entry_no H size cs at IF fs a bytes x y z = refl
-  entry_no H size cs at other fs a bytes x y z = refl
+  entry_no H size cs at Other fs a bytes x y z = refl
 
   pub not_here : (n size : ℕ) (cs : List Constructor) (fs : List Signature) (at : ℕ) → at + 2 ≤ length f
       → (mark_of (mark_at f at) ≡ FN → ⊥) → (mark_of (mark_at f at) ≡ BD → 0 < length fs → ⊥) → (mark_of (mark_at f at) ≡ CN → length fs ≡ 0 → ⊥) → header (suc n) size cs fs at (drop at f) ≡ refuse 3 at

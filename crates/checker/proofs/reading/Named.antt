@@ -2,10 +2,12 @@
 use Prim.Native.Nat.{ℕ}
 use mathlib.Core.Path.{◌≡◌, refl, sym, ap, ◌∙◌}
 use lib.ListN.{get_or}
-use Rattle.meaning.specs.Marks.{Mark, CN, FN, BD, ND, GV, AT, MK, CL, TL, OP, LK, BR, NU, AR, IF, other, names, number_of, mark_of, find_mark}
+use Rattle.meaning.specs.declared.Mark.{Mark}
+use Rattle.meaning.specs.declared.Mark.TheVariants.{CN, FN, BD, ND, GV, AT, MK, CL, TL, OP, LK, BR, NU, AR, IF, Other}
+use Rattle.meaning.specs.Marks.{names, number_of, mark_of, find_mark}
 
 unfoldable pub named : ℕ → Mark
-named n = get_or names n other
+named n = get_or names n Other
 
 named_number : (m : Mark) → named (number_of m) ≡ m
 unfolding named number_of
@@ -24,7 +26,7 @@ named_number BR = refl
 named_number NU = refl
 named_number AR = refl
 named_number IF = refl
-named_number other = refl
+named_number Other = refl
 
 pub mark_is : (w n : ℕ) → find_mark w ≡ n → mark_of w ≡ named n
 unfolding find_mark

@@ -11,7 +11,9 @@ use borrow.Author.Tests.{leb-true, leb-false, ltb-true, ltb-false, eqb-false, le
 use Rattle.meaning.specs.Syntax.{Signature, Constructor, Term, Branches}
 use Rattle.meaning.specs.Outcome.{Outcome, refuse, then}
 use Rattle.meaning.specs.Reading.{Reader, ensure, any, is_atom, is_node, credits, limits, node}
-use Rattle.meaning.specs.Marks.{Mark, CN, FN, BD, ND, GV, AT, MK, CL, TL, OP, LK, BR, NU, AR, IF, other, row_at, number_of}
+use Rattle.meaning.specs.declared.Mark.{Mark}
+use Rattle.meaning.specs.declared.Mark.TheVariants.{CN, FN, BD, ND, GV, AT, MK, CL, TL, OP, LK, BR, NU, AR, IF, Other}
+use Rattle.meaning.specs.Marks.{row_at, number_of}
 use Rattle.checker.specs.declared.reading.Path.{Path}
 use Rattle.checker.specs.declared.reading.Then.{Then}
 use Rattle.checker.specs.declared.reading.Then.TheVariants as then'
@@ -357,4 +359,4 @@ module _ (f d : List ℕ) (cs : List Constructor) (fs : List Signature) (D : Dec
   node_spans BD = refused 2 refl
   node_spans ND = refused 3 refl
   node_spans BR = refused 11 refl
-  node_spans other = refused 15 refl
+  node_spans Other = refused 15 refl

@@ -11,7 +11,8 @@ use native.Mathlib.Omega.{arith}
 use borrow.Author.Tests.{leb-false, ltb-true, ltb-false, eqb-true, eqb-false, lt-ltb}
 use Rattle.meaning.specs.Choice.{pick}
 use Rattle.meaning.specs.Syntax.{Signature, Constructor}
-use Rattle.meaning.specs.Marks.{CN, FN, find_mark, mark_of}
+use Rattle.meaning.specs.declared.Mark.TheVariants.{CN, FN}
+use Rattle.meaning.specs.Marks.{find_mark, mark_of}
 use Rattle.meaning.specs.Reading.{header}
 use Rattle.standing.specs.Bytes.{mark_at}
 use Rattle.standing.specs.Table.{con_end, fun_end}

@@ -8,7 +8,8 @@ use lib.Dec.{leb, ltb}
 use Rattle.meaning.specs.Syntax.{Signature, Constructor, Term, Branches}
 use Rattle.meaning.specs.Outcome.{Outcome, ok, refuse, then}
 use Rattle.meaning.specs.Plain.{place_of}
-use Rattle.meaning.specs.Marks.{Mark, CN, FN, BD, ND, GV, AT, MK, CL, TL, OP, LK, BR, NU, AR, IF, other}
+use Rattle.meaning.specs.declared.Mark.{Mark}
+use Rattle.meaning.specs.declared.Mark.TheVariants.{CN, FN, BD, ND, GV, AT, MK, CL, TL, OP, LK, BR, NU, AR, IF, Other}
 use Rattle.meaning.specs.Reading.{Reader, byte, ensure, times, below, declared, any, is_atom, is_node, credits, limits, mark, node, term}
 
 data Placed (p : ℕ) : Outcome (Term × ℕ × List ℕ) → Type 0 where
@@ -37,7 +38,7 @@ module _ (cs : List Constructor) (fs : List Signature) (T : (slots nodes : ℕ) 
   node_placed s k p BD a bytes = unplaced
   node_placed s k p ND a bytes = unplaced
   node_placed s k p BR a bytes = unplaced
-  node_placed s k p other a bytes = unplaced
+  node_placed s k p Other a bytes = unplaced
 
 term_placed : (cs : List Constructor) (fs : List Signature) (n s k a : ℕ) (bytes : List ℕ) → Placed a (term cs fs n s k a bytes)
 unfolding term

@@ -3,7 +3,8 @@ use Rattle.std.proofs.Common.{◌≡◌, ℕ, ◌+◌, ◌-◌, ◌*◌, ◌<◌
 use mathlib.Core.Option.{Option, none, some}
 use borrow.Author.Tests.{eqb-false}
 use Rattle.meaning.specs.Choice.{pick}
-use Rattle.meaning.specs.Marks.{Mark, mark_of}
+use Rattle.meaning.specs.declared.Mark.{Mark}
+use Rattle.meaning.specs.Marks.{mark_of}
 use Rattle.meaning.specs.Plain.{arithmetic}
 use Rattle.standing.specs.Bytes.{byte_at, mark_at, arity_in, params_in, body_in}
 use Rattle.machine.specs.Layout.{Top, top, going, moved, ended, below, bound, laid, gathered, words, slot_in, nu_of, at_of, ar_of, gv_of, tl_of, cl_of, mk_of, con_of, opened_of, op_of}
@@ -146,7 +147,7 @@ module _ (bytes decl store store' : List ℕ) where
   node_kept Mark.BD c c' n s = kept c c' (ap behind s.1)
   node_kept Mark.ND c c' n s = kept c c' (ap behind s.1)
   node_kept Mark.BR c c' n s = kept c c' (ap behind s.1)
-  node_kept Mark.other c c' n s = kept c c' (ap behind s.1)
+  node_kept Mark.Other c c' n s = kept c c' (ap behind s.1)
 
 module _ {bytes decl store store' : List ℕ} {c c' : Top} (f : Fit bytes decl store c) (s : Steps bytes decl store c store' c') where
   step_kept : Kept bytes decl store store' c c'

@@ -25,7 +25,7 @@ use Rattle.theory.proofs.Wants.{took_credit, took_owned, took_looked}
 use Rattle.theory.proofs.Sim.{Ready}
 use Rattle.standing.specs.Bytes.{byte_at, params_in, arity_in, body_in}
 use Rattle.meaning.specs.Choice.{pick}
-use Rattle.meaning.specs.Marks.{Mark}
+use Rattle.meaning.specs.declared.Mark.{Mark}
 use Rattle.standing.specs.Stands.{Listed, Stands, Each, count}
 use Rattle.standing.specs.Table.{Declared}
 

@@ -4,9 +4,10 @@ use Rattle.machine.specs.declared.step.Then.TheVariants.{Leaf}
 use Rattle.machine.specs.Layout.{Top}
 use Rattle.machine.specs.Skips.{past, then_at}
 use Rattle.machine.specs.Steps.{StepsAt}
-use Rattle.meaning.specs.Marks.{Mark, names, row_at, number_of, mark_of, find_mark}
+use Rattle.meaning.specs.declared.Mark.{Mark}
+use Rattle.meaning.specs.Marks.{names, row_at, number_of, mark_of, find_mark}
 
-name_of : (m : Mark) → get_or names (number_of m) Mark.other ≡ m
+name_of : (m : Mark) → get_or names (number_of m) Mark.Other ≡ m
 unfolding number_of
 name_of Mark.CN = refl
 name_of Mark.FN = refl
@@ -23,11 +24,11 @@ name_of Mark.BR = refl
 name_of Mark.NU = refl
 name_of Mark.AR = refl
 name_of Mark.IF = refl
-name_of Mark.other = refl
+name_of Mark.Other = refl
 
-pub mark_is : (w : ℕ) {i m : ℕ} → m ≡ find_mark w → m ≡ i → mark_of w ≡ get_or names i Mark.other
+pub mark_is : (w : ℕ) {i m : ℕ} → m ≡ find_mark w → m ≡ i → mark_of w ≡ get_or names i Mark.Other
 unfolding find_mark
-mark_is w e f = sym (name_of (mark_of w)) ∙ ap (λ i. get_or names i Mark.other) (sym e ∙ f)
+mark_is w e f = sym (name_of (mark_of w)) ∙ ap (λ i. get_or names i Mark.Other) (sym e ∙ f)
 
 pub past_is : (k : Mark) {n : ℕ} → (row_at (number_of k)).fields ≡ n → (p : ℕ) → past k p ≡ p + (2 + n)
 unfolding past
@@ -56,7 +57,7 @@ leaf_follows Mark.FN bytes decl at e a b c d f g r h i j = refl
 leaf_follows Mark.BD bytes decl at e a b c d f g r h i j = refl
 leaf_follows Mark.ND bytes decl at e a b c d f g r h i j = refl
 leaf_follows Mark.BR bytes decl at e a b c d f g r h i j = absurd (r e)
-leaf_follows Mark.other bytes decl at e a b c d f g r h i j = refl
+leaf_follows Mark.Other bytes decl at e a b c d f g r h i j = refl
 
 -- a mark of no node: nothing is done
 pub no_node : (k : Mark) (bytes decl store : List ℕ) (x : Top) {n : ℕ} → n ≡ number_of k → (n ≡ 4 → ⊥) → (n ≡ 5 → ⊥) → (n ≡ 6 → ⊥) → (n ≡ 7 → ⊥) → (n ≡ 8 → ⊥) → (n ≡ 9 → ⊥)
@@ -77,4 +78,4 @@ no_node Mark.FN bytes decl store x e z a b c d f g h i j = (refl, refl)
 no_node Mark.BD bytes decl store x e z a b c d f g h i j = (refl, refl)
 no_node Mark.ND bytes decl store x e z a b c d f g h i j = (refl, refl)
 no_node Mark.BR bytes decl store x e z a b c d f g h i j = (refl, refl)
-no_node Mark.other bytes decl store x e z a b c d f g h i j = (refl, refl)
+no_node Mark.Other bytes decl store x e z a b c d f g h i j = (refl, refl)

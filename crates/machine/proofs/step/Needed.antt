@@ -20,7 +20,8 @@ use Rattle.theory.proofs.Taking.{take_inv, steps_ok, require_then}
 use Rattle.theory.proofs.Wants.{took_credit, took_owned, took_looked}
 use Rattle.theory.proofs.Sim.{Ready, Accepted}
 use Rattle.standing.specs.Bytes.{byte_at, mark_at, arity_in, params_in}
-use Rattle.meaning.specs.Marks.{mark_of, find_mark, Mark}
+use Rattle.meaning.specs.declared.Mark.{Mark}
+use Rattle.meaning.specs.Marks.{mark_of, find_mark}
 use Rattle.machine.proofs.step.Marked.{mark_is}
 use Rattle.machine.proofs.step.Words.{side}
 use Rattle.meaning.specs.Choice.{pick}

@@ -21,7 +21,7 @@ use Rattle.theory.proofs.Wants.{took_number}
 use Rattle.theory.proofs.Sim.{Ready, give}
 use Rattle.standing.specs.Bytes.{byte_at}
 use Rattle.meaning.specs.Choice.{pick}
-use Rattle.meaning.specs.Marks.{Mark}
+use Rattle.meaning.specs.declared.Mark.{Mark}
 use Rattle.standing.specs.Stands.{Stands}
 use Rattle.standing.specs.Table.{Declared}
 

@@ -2,7 +2,8 @@
 use Rattle.std.proofs.Common.{◌≡◌, ℕ, suc, ◌+◌, ◌-◌, ◌<◌, ◌≤◌, ◌⊎◌, List, length, sym, refl, ap, ◌∙◌, subst, inl, inr, arith}
 use Rattle.machine.specs.declared.step.Then.TheVariants.{One}
 use Rattle.machine.specs.Skips.{then_of, then_at, next_of, opens_of, SafeAt, Skips, SkipsAll, SkipsMany}
-use Rattle.meaning.specs.Marks.{row_at, number_of, mark_of, Mark}
+use Rattle.meaning.specs.declared.Mark.{Mark}
+use Rattle.meaning.specs.Marks.{row_at, number_of, mark_of}
 use Rattle.standing.specs.Bytes.{mark_at}
 use Rattle.machine.proofs.step.Marked.{past_is}
 use Rattle.machine.proofs.step.Skipping.{skips_safe, skips_past}

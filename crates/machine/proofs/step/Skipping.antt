@@ -6,7 +6,8 @@ use Rattle.machine.specs.Skips.{past, then_of, then_at, Safe, SafeAt, Skips, Ski
 use Rattle.meaning.specs.Syntax.{Term, Branches, Constructor, File}
 use Rattle.meaning.specs.Plain.{place_of, branch}
 use Rattle.standing.specs.Bytes.{byte_at, mark_at, arity_in, params_in}
-use Rattle.meaning.specs.Marks.{row_at, number_of, mark_of, Mark}
+use Rattle.meaning.specs.declared.Mark.{Mark}
+use Rattle.meaning.specs.Marks.{row_at, number_of, mark_of}
 use Rattle.machine.proofs.step.Marked.{past_is}
 use Rattle.standing.specs.Stands.{Stands, Each, count}
 use Rattle.standing.specs.Table.{Declared}

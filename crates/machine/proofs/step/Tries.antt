@@ -2,7 +2,8 @@
 use Rattle.std.proofs.Common.{◌≡◌, ℕ, ◌+◌, ◌-◌, ◌*◌, ◌%◌, ◌<◌, Bool, true, false, eqb, ltb, List, sym, refl, ap, ◌∙◌, subst, arith}
 use mathlib.Core.Option.{Option, none, some}
 use Rattle.meaning.specs.Choice.{pick}
-use Rattle.meaning.specs.Marks.{Mark, mark_of, number_of, find_mark}
+use Rattle.meaning.specs.declared.Mark.{Mark}
+use Rattle.meaning.specs.Marks.{mark_of, number_of, find_mark}
 use Rattle.meaning.specs.Plain.{arithmetic, place_of}
 use Rattle.meaning.specs.Syntax.{Term, File}
 use Rattle.standing.specs.Bytes.{byte_at, mark_at}

@@ -15,7 +15,8 @@ use Rattle.meaning.specs.Machine as M
 use Rattle.theory.proofs.Sim.{Ready}
 use Rattle.theory.proofs.Stack.{keep, Kept}
 use Rattle.standing.specs.Bytes.{mark_at}
-use Rattle.meaning.specs.Marks.{mark_of, Mark}
+use Rattle.meaning.specs.declared.Mark.{Mark}
+use Rattle.meaning.specs.Marks.{mark_of}
 use Rattle.standing.specs.Stands.{Stands}
 use Rattle.standing.specs.Table.{Declared}
 

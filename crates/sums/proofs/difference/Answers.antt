@@ -9,7 +9,7 @@ pub returns-then-b-a : goal.returns-then-b-a
 unfolding pick
 returns-then-b-a c =
     let fits : c.args.b ≤ c.args.a = omega arith in
-    rw (le-leb _ _ fits)
+    rw (le-leb _ _ fits) c.from.ensures
 
 pub returns-else-b-a : goal.returns-else-b-a
 unfolding pick

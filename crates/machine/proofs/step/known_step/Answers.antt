@@ -1,6 +1,6 @@
 -- The proof of `known_step`. Assumes nothing.
 use Rattle.std.proofs.Common.{◌<◌, ◌≤◌, refl, ap, ◌∙◌, arith}
-use Rattle.meaning.specs.Marks.{Mark}
+use Rattle.meaning.specs.declared.Mark.{Mark}
 use Rattle.standing.specs.Bytes.{mark_at}
 use Rattle.machine.specs.Layout.{nu_of, at_of, tl_of, mk_of}
 use Rattle.machine.proofs.step.Marked.{mark_is}

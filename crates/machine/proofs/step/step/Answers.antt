@@ -1,6 +1,7 @@
 -- The proof of `step`. Assumes nothing.
 use Rattle.std.proofs.Common.{◌<◌, ◌≤◌, refl, arith}
-use Rattle.meaning.specs.Marks.{Mark, mark_of, find_mark}
+use Rattle.meaning.specs.declared.Mark.{Mark}
+use Rattle.meaning.specs.Marks.{mark_of, find_mark}
 use Rattle.standing.specs.Bytes.{mark_at}
 use Rattle.machine.proofs.step.Marked.{mark_is, no_node}
 use Rattle.machine.proofs.step.Needed.{fit_needs, fit_mark, fit_opens, steps_of, opens_of}
