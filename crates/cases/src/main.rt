@@ -1,64 +1,81 @@
-// Runs the cases that stand on standard input, and prints a line for each. A case is a kind (0: a file to check, 1: a request to run), the length of its bytes in three bytes, high byte first, and the bytes.
+// Runs the cases that stand on standard input, and prints a line for each. A case is a kind (0: a file to check, another: a request to run), the length of its bytes in three bytes, high byte first, and the bytes.
 #![tactic(auto)]
 
-ghost use Rattle.std.specs.Prelude.{◌≤◌, OnOk};
+ghost use Rattle.std.specs.Prelude.{◌≡◌, OnOk};
 ghost use Rattle.std.specs.Io.KnownBytes.{Appends};
-ghost use Rattle.cases.specs.Kinds.{line_by_kind};
+ghost use Rattle.lines.specs.Writing.{Line};
+ghost use Rattle.cases.specs.Kinds.{kind_of, line_by_kind};
 
+use lines::ROOM;
 use std::io;
 use std::io::{Read, Write};
+use streams::BUFFER;
 
-// The bytes of the buffer, and the most that a case may have: one that says more gets no line.
-const BUFFER: usize = 65536;
+// What a case asks for.
+#[derive(Clone, Copy, Debug, PartialEq, Eq)]
+enum Kind {
+    Check,
+    Run,
+}
 
-// A byte as a number.
-fn wide(byte: u8) -> usize
-    ensures { result ≤ 255 }
+impl From<u8> for Kind {
+    ghost from_gives = { λ byte kind. kind ≡ kind_of byte };
+
+    fn from(byte: u8) -> Kind {
+        match byte {
+            0 => Kind::Check,
+            _ => Kind::Run,
+        }
+    }
+}
+
+// What stands before a case's bytes.
+#[derive(Clone, Copy, Debug, PartialEq, Eq)]
+struct Head {
+    kind: Kind,
+    length: usize,
+}
+
+// Reads the head of the next case, if there is one.
+fn next_head<R: Read>(input: &mut R) -> io::Result<Option<Head>> {
+    let mut head = [0u8; 4];
+    if streams::read_full(input, &mut head)? < head.len() {
+        return Ok(None);
+    }
+    let [kind, high, middle, low] = head;
+    Ok(Some(Head {
+        kind: Kind::from(kind),
+        length: u32::from_be_bytes([0, high, middle, low]) as usize,
+    }))
+}
+
+// Lays the line of a case, and answers how many bytes it has.
+fn case_line(kind: Kind, input: &[u8], out: &mut [u8; ROOM]) -> usize
+    ensures { Line (line_by_kind kind input.now) out.old out.new result }
 {
-    byte as usize
+    match kind {
+        Kind::Check => lines::check_line(input, out),
+        Kind::Run => lines::run_line(input, out),
+    }
 }
 
 // Prints the line of a case.
-fn print_line<W: Write>(output: &mut W, kind: u8, input: &[u8]) -> io::Result<()>
+fn print_line<W: Write>(output: &mut W, kind: Kind, input: &[u8]) -> io::Result<()>
     ensures { OnOk result (Appends (W.contents output.old) (W.contents output.new) (line_by_kind kind input.now)) }
 {
-    let mut line = [0u8; lines::ROOM];
-    if kind == 0 {
-        let end = lines::check_line(input, &mut line);
-        return output.write_all(&line[..end]);
-    }
-    let end = lines::run_line(input, &mut line);
-    output.write_all(&line[..end])
+    streams::write_line(output, input, |bytes: &[u8], out: &mut [u8; ROOM]| {
+        case_line(kind, bytes, out)
+    })
 }
 
-// Reads a case's bytes, and prints its line.
-fn one_case<R: Read, W: Write>(
-    input: &mut R,
-    output: &mut W,
-    kind: u8,
-    length: usize,
-) -> io::Result<()> {
-    if length > BUFFER {
+// Reads a case's bytes, and prints its line; a case that says more bytes than the buffer has gets none.
+fn print_case<R: Read, W: Write>(input: &mut R, output: &mut W, head: Head) -> io::Result<()> {
+    if head.length > BUFFER {
         return Ok(());
     }
     let mut bytes = [0u8; BUFFER];
-    let n = streams::read_full(input, &mut bytes[..length])?;
-    print_line(output, kind, &bytes[..n])
-}
-
-// Takes the next case, and answers whether there was one.
-fn next_case<R: Read, W: Write>(input: &mut R, output: &mut W) -> io::Result<bool> {
-    let mut head = [0u8; 4];
-    if streams::read_full(input, &mut head)? < 4 {
-        return Ok(false);
-    }
-    one_case(
-        input,
-        output,
-        head[0],
-        wide(head[1]) * 65536 + wide(head[2]) * 256 + wide(head[3]),
-    )?;
-    Ok(true)
+    let n = streams::read_full(input, &mut bytes[..head.length])?;
+    print_line(output, head.kind, &bytes[..n])
 }
 
 // A proved loop has to end, and nothing says that the input does: so it counts up to a number of cases that no run uses up.
@@ -66,9 +83,10 @@ fn main(rt: HostRuntime) -> io::Result<()> {
     let mut input = rt.stdin();
     let mut output = rt.stdout();
     for _ in 0..u32::MAX {
-        if !next_case(&mut input, &mut output)? {
+        let Some(head) = next_head(&mut input)? else {
             break;
-        }
+        };
+        print_case(&mut input, &mut output, head)?;
     }
     Ok(())
 }

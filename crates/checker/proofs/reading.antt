@@ -1,4 +1,5 @@
 pub mod Named
+pub mod Marking
 pub mod Spans
 pub mod Nodes
 pub mod Cycle
@@ -6,7 +7,7 @@ pub mod Steps
 pub mod Tabled
 pub mod Places
 pub mod Heads
-pub mod Header
+pub mod Heading
 pub mod Opened
 pub mod Body
 pub mod Filed

@@ -1,3 +1,5 @@
+pub mod Read
+pub mod Node
 pub mod ReadingBytes
 pub mod Reads
 pub mod Opening

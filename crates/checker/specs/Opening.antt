@@ -1,14 +1,18 @@
 -- What the table of declarations holds while a file is read, and how far the reader of trees has come. Assumes nothing.
-use Rattle.std.specs.Prelude.{ℕ, ◌+◌, ◌≤◌, ◌<◌, List, [], ◌++◌, map, ◌≡◌, ◌⊎◌, length, drop}
+use Rattle.std.specs.Prelude.{ℕ, ◌+◌, ◌≤◌, ◌<◌, List, [], ◌++◌, map, ◌≡◌, ◌⊎◌, length, drop, Result, Ok, Err}
+use Rattle.meaning.specs.declared.Refusal.{Refusal}
+use Rattle.meaning.specs.Answers.{fault_number}
 use Rattle.meaning.specs.Syntax.{Constructor, Signature, Term, File}
 use Rattle.meaning.specs.Outcome.{Outcome, ok, refuse, then}
 use Rattle.meaning.specs.Plain.{place_of}
 use Rattle.meaning.specs.Reading.{header, between, bodies, read}
+use Rattle.standing.specs.Bytes.{number_at}
 use Rattle.standing.specs.Table.{con_words, con_end, fun_words, fun_end, filled, table_of}
-use Rattle.checker.specs.declared.reading.Read.{Read}
-use Rattle.checker.specs.declared.reading.Read.TheVariants.{Next, Fault}
-use Rattle.checker.specs.declared.reading.Reached.{Reached}
-use Rattle.checker.specs.ReadingBytes.{path, known_count, number_at, expect_at}
+use Rattle.checker.specs.Read.{Read, Next, Fault}
+use Rattle.checker.specs.declared.reading.Records.{Records}
+use Rattle.checker.specs.declared.reading.Records.TheVariants.{Constructors, Functions}
+use Rattle.checker.specs.declared.reading.Header.{Header}
+use Rattle.checker.specs.ReadingBytes.{path, known_count, con_at, fun_at, expect_at}
 use Rattle.checker.specs.Reads.{Declares, ReadsTerm}
 use Rattle.checker.specs.Paths.{Head}
 
@@ -33,9 +37,6 @@ pub record Conned (f d : List ℕ) (n at : ℕ) : Type 0 where
 unfoldable pub Refused : List ℕ → (answer place : ℕ) → Type 0
 Refused f answer place = (0 < answer) × (place ≤ length f) × ((m size : ℕ) → length f < m → header m size [] [] 0 f ≡ refuse answer place)
 
-unfoldable pub ConsRead : (f d : List ℕ) → Reached → Type 0
-ConsRead f d r = ((r.number ≡ 0) × Conned f d r.count r.at × (number_at f r.at ≡ 0 → ⊥)) ⊎ Refused f r.number r.at
-
 -- the constructors and k functions are read
 pub record Headed (f d : List ℕ) (k at : ℕ) : Type 0 where
   pub constructors : List Constructor
@@ -52,10 +53,32 @@ pub record Headed (f d : List ℕ) (k at : ℕ) : Type 0 where
   pub inside : at ≤ length f
   pub reads : (m size : ℕ) → header (m + (length constructors + k)) size [] [] 0 f ≡ header m size constructors functions at (drop at f)
 
-unfoldable pub FunsRead : (f d : List ℕ) → Reached → Type 0
-FunsRead f d r =
-    ((r.number ≡ 0) × Headed f d r.count r.at × (number_at f r.at ≡ 1 → ⊥) × (r.count ≡ 0 → number_at f r.at ≡ 0 → ⊥))
-    ⊎ Refused f r.number r.at
+-- the records of one kind: the number of their mark, how many there may be, the first one's word in the table, and the fields behind a mark
+abbrev pub mark_number : Records → ℕ
+mark_number Constructors = 0
+mark_number Functions = 1
+
+abbrev pub limit_of : Records → ℕ
+limit_of Constructors = 64
+limit_of Functions = 32
+
+abbrev pub first_of : Records → ℕ
+first_of Constructors = 0
+first_of Functions = 64
+
+abbrev pub fields_of : Records → List ℕ → ℕ → Read
+fields_of Constructors = con_at
+fields_of Functions = fun_at
+
+-- n of them are read
+unfoldable pub Counted : Records → (f d : List ℕ) (n at : ℕ) → Type 0
+Counted Constructors f d n at = Conned f d n at
+Counted Functions f d n at = Headed f d n at × (n ≡ 0 → number_at f at ≡ 0 → ⊥)
+
+-- all of them are read, or the header is refused
+unfoldable pub RecordsRead : Records → (f d : List ℕ) → Result Header Refusal → Type 0
+RecordsRead k f d (Ok r) = Counted k f d r.count r.at × (number_at f r.at ≡ mark_number k → ⊥)
+RecordsRead k f d (Err r) = Refused f (fault_number r.fault) r.place
 
 -- the reader of trees from `at` on: the bodies of `rest`, behind those that are done
 unfoldable pub left_over : (f : List ℕ) → List Constructor → List Signature → (done : List Term) → (rest : List Signature) → (at : ℕ) → Outcome File
@@ -80,10 +103,9 @@ pub record Bodied (f d : List ℕ) (count j at : ℕ) : Type 0 where
   pub reads : read f ≡ left_over f constructors functions terms (drop j functions) at
 
 -- the constructors and the functions are read, and the bodies come next; or the file is refused
-unfoldable pub HeaderRead : (f d : List ℕ) → Reached → Type 0
-HeaderRead f d r =
-    ((r.number ≡ 0) × Bodied f d r.count 0 r.at)
-    ⊎ ((0 < r.number) × (read f ≡ refuse r.number r.at) × (r.at ≤ 4096))
+unfoldable pub HeaderRead : (f d : List ℕ) → Result Header Refusal → Type 0
+HeaderRead f d (Ok r) = Bodied f d r.count 0 r.at
+HeaderRead f d (Err r) = (0 < fault_number r.fault) × (read f ≡ refuse (fault_number r.fault) r.place) × (r.place ≤ 4096)
 
 -- BD, and a body of function j behind it
 unfoldable pub ReadsBody : (f d : List ℕ) → (at j : ℕ) → Read → Type 0

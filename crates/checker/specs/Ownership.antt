@@ -1,20 +1,27 @@
 -- What the ownership check's records take, bind and are followed by, by the bytes. Assumes nothing.
-use Rattle.std.specs.Prelude.{ℕ, zero, suc, ◌+◌, ◌*◌, ◌^◌, Bool, true, false, ◌&&◌, List, get_or, set, eqb, leb}
+use Rattle.std.specs.Prelude.{ℕ, zero, suc, ◌+◌, ◌*◌, ◌^◌, Bool, true, false, ◌&&◌, List, get_or, set, eqb, leb, Result, Ok, Err, Option, None, Some}
 use Rattle.std.specs.Int.Bits.{bit_or}
 use Rattle.meaning.specs.declared.Kind.{Kind}
 use Rattle.meaning.specs.declared.Kind.TheVariants as kind
 use Rattle.meaning.specs.declared.Slot.{Slot}
+use Rattle.meaning.specs.declared.Fault.{Fault}
+use Rattle.meaning.specs.declared.Refusal.{Refusal}
+use Rattle.meaning.specs.Answers.{fault_number}
 use Rattle.meaning.specs.Choice.{pick}
 use Rattle.meaning.specs.Marks.{row_at}
 use Rattle.meaning.specs.Ownership.{leftover}
-use Rattle.standing.specs.Bytes.{byte_at, arity_in, fields_in, params_in, modes_in}
+use Rattle.standing.specs.Bytes.{byte_at, arity_in, fields_in, params_in, modes_in, result_in}
 use Rattle.checker.specs.declared.slots.Want.{Want}
 use Rattle.checker.specs.declared.slots.Want.TheVariants as want
-use Rattle.checker.specs.declared.ownership.Taken.{Taken}
-use Rattle.checker.specs.declared.reading.Then.{Then}
-use Rattle.checker.specs.declared.reading.Then.TheVariants.{Leaf, One, Two, Many}
+use Rattle.checker.specs.Node.{Then, Leaf, One, Two, Many}
 use Rattle.checker.specs.Bits.{bits_of}
-use Rattle.checker.specs.Slots.{now_kind, spends_of, test_of, want_at, want_back, kind_at, slots_of, spent_by, unbound, bound_slot}
+use Rattle.checker.specs.Slots.{sort_at, sort_number, now_kind, spends_of, test_of, want_at, want_back, kind_at, slots_of, spent_by, unbound, bound_slot}
+
+-- what a record takes: the slots that it spends, as bits; or, where the number is not 0, a fault and its place
+pub record Taken : Type 0 where
+  pub number : ℕ
+  pub place : ℕ
+  pub spent : ℕ
 
 abbrev pub fine : ℕ → Taken
 fine spent = record { number = 0; place = 0; spent = spent }
@@ -22,13 +29,17 @@ fine spent = record { number = 0; place = 0; spent = spent }
 abbrev pub fault : (number place : ℕ) → Taken
 fault n p = record { number = n; place = p; spent = 0 }
 
+-- the code's answer, by its cases
+abbrev pub as_taken : Result ℕ Refusal → Taken
+as_taken (Ok spent) = fine spent
+as_taken (Err r) = fault (fault_number r.fault) r.place
+
+abbrev pub unbound_at : ℕ → Refusal
+unbound_at p = record { fault = Fault.NotBound; place = p }
+
 -- go on with what was taken; a fault stands
 unfoldable pub on_fine : Taken → Taken → Taken
 on_fine t u = pick (eqb t.number 0) u t
-
--- the sort of a function's result
-abbrev pub result_in : (bytes decl : List ℕ) → ℕ → ℕ
-result_in bytes decl f = byte_at bytes (modes_in decl f + params_in decl f)
 
 -- one slot of a kind: its test, and then the slots spent, with it where it is spent
 unfoldable pub take_kind : Kind → (slot place : ℕ) → Want → (barred : Bool) → (spent : ℕ) → Taken
@@ -78,7 +89,7 @@ module _ (bytes decl : List ℕ) (at : ℕ) (slots : List Slot) (bound : ℕ) wh
   call_of = list_of bytes slots bound 1 (params_in decl (byte_at bytes (at + 2))) (modes_in decl (byte_at bytes (at + 2))) (at + 3) 0 0
 
   unfoldable pub tail_of : (result : ℕ) → Taken
-  tail_of result = pick (eqb (result_in bytes decl (byte_at bytes (at + 2))) result) (close_of call_of at slots bound) (fault 8 (at + 2))
+  tail_of result = pick (eqb (sort_number (sort_at (result_in bytes decl (byte_at bytes (at + 2))))) result) (close_of call_of at slots bound) (fault 8 (at + 2))
 
   -- what the record of a mark takes
   unfoldable pub taken_of : (mark result : ℕ) → Taken
@@ -177,3 +188,7 @@ branch_of bytes decl c at credit slots bound =
 -- the fault of a constructor that has a second branch
 unfoldable pub repeat_of : (seen constructor : ℕ) → ℕ
 repeat_of seen c = pick (get_or (bits_of 64 seen) c false) 12 0
+
+-- the same with its place
+unfoldable pub repeated : (seen constructor place : ℕ) → Option Refusal
+repeated seen c p = pick (get_or (bits_of 64 seen) c false) (Some (record { fault = Fault.ConstructorTwice; place = p })) None

@@ -14,14 +14,12 @@ use Rattle.meaning.specs.Calls.{calls, calls_branches}
 use Rattle.standing.specs.Bytes.{byte_at, mark_at, arity_in, fields_in, params_in, modes_in}
 use Rattle.standing.specs.Stands.{Stands, Each, count, arity}
 use Rattle.standing.specs.Table.{Sorts, Modes, sort_byte}
-use Rattle.checker.specs.declared.ownership.Taken.{Taken}
-use Rattle.checker.specs.declared.reading.Then.{Then}
-use Rattle.checker.specs.declared.reading.Read.{Read}
-use Rattle.checker.specs.declared.reading.Read.TheVariants.{Next, Fault}
+use Rattle.checker.specs.Node.{Then}
+use Rattle.checker.specs.Read.{Read, Next, Fault}
 use Rattle.checker.specs.Bits.{bits_of}
 use Rattle.checker.specs.Noting.{note_calls}
 use Rattle.checker.specs.Slots.{slots_of, kept_of}
-use Rattle.checker.specs.Ownership.{taken_of, kind_by, then_of}
+use Rattle.checker.specs.Ownership.{Taken, taken_of, kind_by, then_of}
 
 -- the answer of a check that ends at a place
 unfoldable pub spanned : ℕ → Outcome (Unit {0}) → Read

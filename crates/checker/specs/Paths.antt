@@ -5,9 +5,9 @@ use Rattle.meaning.specs.declared.Slot.{Slot}
 use Rattle.meaning.specs.Marks.{find_mark, row_at}
 use Rattle.standing.specs.Bytes.{byte_at, mark_at, arity_in, params_in, modes_in}
 use Rattle.checker.specs.declared.reading.Path.{Path}
-use Rattle.checker.specs.declared.reading.Node.{Node}
-use Rattle.checker.specs.declared.reading.Then.TheVariants as then
-use Rattle.checker.specs.declared.reading.Read.TheVariants.{Next}
+use Rattle.checker.specs.Node.{Node}
+use Rattle.checker.specs.Node as then
+use Rattle.checker.specs.Read.{Next}
 use Rattle.checker.specs.Ownership.{credits_of}
 use Rattle.checker.specs.ReadingBytes.{path, node_at, branch_at, expect_at}
 use Rattle.checker.specs.Reads.{ReadsTerm}

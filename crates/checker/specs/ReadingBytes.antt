@@ -4,11 +4,9 @@ use Rattle.meaning.specs.Choice.{pick}
 use Rattle.meaning.specs.Marks.{row_at, find_mark}
 use Rattle.standing.specs.Bytes.{byte_at, mark_at, arity_in, params_in}
 use Rattle.checker.specs.declared.reading.Path.{Path}
-use Rattle.checker.specs.declared.reading.Then.{Then}
-use Rattle.checker.specs.declared.reading.Then.TheVariants as then
-use Rattle.checker.specs.declared.reading.Node.{Node}
-use Rattle.checker.specs.declared.reading.Read.{Read}
-use Rattle.checker.specs.declared.reading.Read.TheVariants.{Next, Fault}
+use Rattle.checker.specs.Node.{Then, Node}
+use Rattle.checker.specs.Node as then
+use Rattle.checker.specs.Read.{Read, Next, Fault}
 
 -- how many slots a mark's record binds
 unfoldable pub binds_of : ℕ → ℕ
@@ -20,6 +18,13 @@ known_arity d c = pick (ltb c 64) (arity_in d c) 255
 
 unfoldable pub known_count : List ℕ → ℕ → ℕ
 known_count d g = pick (ltb g 32) (params_in d g) 255
+
+-- the byte, and the mark, at a place
+unfoldable pub byte_read : List ℕ → ℕ → Read
+byte_read f at = pick (leb (length f) at) (Fault 2 (length f)) (Next (get_or f at 0))
+
+unfoldable pub mark_read : List ℕ → ℕ → Read
+mark_read f at = pick (ltb (length f) (at + 2)) (Fault 2 (length f)) (Next (find_mark (mark_at f at)))
 
 -- fields
 unfoldable pub room : List ℕ → ℕ → ℕ → Read
@@ -117,16 +122,10 @@ branch_by fit f d at credit slots =
     pick (ltb (length f) (at + 2)) (Fault 2 (length f))
     (pick (eqb (find_mark (mark_at f at)) 11) (branch_fields_by fit f d at credit slots) (Fault 3 at))
 
-abbrev pub branch_fields : List ℕ → List ℕ → ℕ → ℕ → ℕ → Read
-branch_fields f d at credit slots = branch_fields_by (fitting at) f d at credit slots
-
 abbrev pub branch_at : List ℕ → List ℕ → ℕ → ℕ → ℕ → Read
 branch_at f d at credit slots = branch_by (fitting at) f d at credit slots
 
 -- ---- the header
-unfoldable pub number_at : List ℕ → ℕ → ℕ
-number_at f at = pick (ltb (length f) (at + 2)) 16 (find_mark (mark_at f at))
-
 unfoldable pub small_bytes : ℕ → List ℕ → ℕ → ℕ → Read
 small_bytes zero f at top = Next at
 small_bytes (suc k) f at top = pick (leb (length f) at) (Fault 2 (length f)) (pick (ltb top (get_or f at 0)) (Fault 4 at) (small_bytes k f (suc at) top))
@@ -135,13 +134,15 @@ unfoldable pub on_next : Read → (ℕ → Read) → Read
 on_next (Next n) g = g n
 on_next (Fault x p) g = Fault x p
 
+-- how many bytes, and then the bytes
+unfoldable pub counted_at : List ℕ → (at most top : ℕ) → Read
+counted_at f at most top = pick (leb (length f) at) (Fault 2 (length f)) (pick (ltb most (get_or f at 0)) (Fault 4 at) (small_bytes (get_or f at 0) f (at + 1) top))
+
 unfoldable pub con_at : List ℕ → ℕ → Read
-con_at f at = pick (leb (length f) at) (Fault 2 (length f)) (pick (ltb 4 (get_or f at 0)) (Fault 4 at) (small_bytes (get_or f at 0) f (at + 1) 1))
+con_at f at = counted_at f at 4 1
 
 unfoldable pub fun_at : List ℕ → ℕ → Read
-fun_at f at =
-    pick (leb (length f) at) (Fault 2 (length f))
-    (pick (ltb 8 (get_or f at 0)) (Fault 4 at) (on_next (small_bytes (get_or f at 0) f (at + 1) 2) (λ n. small_bytes 1 f n 1)))
+fun_at f at = on_next (counted_at f at 8 2) (λ n. small_bytes 1 f n 1)
 
 -- ---- bodies
 -- the mark number m at a place

@@ -7,8 +7,7 @@ use Rattle.meaning.specs.Syntax.{Signature, Constructor}
 use Rattle.meaning.specs.Outcome.{Outcome, ok, refuse}
 use Rattle.meaning.specs.Reading.{term, branches}
 use Rattle.checker.specs.declared.reading.Path.{Path}
-use Rattle.checker.specs.declared.reading.Read.{Read}
-use Rattle.checker.specs.declared.reading.Read.TheVariants.{Next, Fault}
+use Rattle.checker.specs.Read.{Read, Next, Fault}
 use Rattle.checker.specs.ReadingBytes.{known_arity, known_count}
 
 unfoldable pub span_of : {A : Type 0} → Outcome (A × ℕ × List ℕ) → Read

@@ -1,10 +1,16 @@
 -- The code's slots as slots of the definition, what a record's test of a slot answers, and slots spent and bound. Assumes nothing.
-use Rattle.std.specs.Prelude.{ℕ, zero, suc, Bool, true, false, ◌||◌, List, [], ◌∷◌, set, eqb, ltb}
+use Rattle.std.specs.Prelude.{ℕ, zero, suc, Bool, true, false, ◌||◌, List, [], ◌∷◌, set, eqb, ltb, Result, Ok, Err}
+use Rattle.meaning.specs.declared.Fault.{Fault}
 use Rattle.meaning.specs.declared.Kind.{Kind}
 use Rattle.meaning.specs.declared.Kind.TheVariants.{Number, Lent, Owned, Credit, UsedOwned, UsedCredit}
 use Rattle.meaning.specs.declared.Slot.{Slot}
+use Rattle.meaning.specs.Answers.{fault_number}
 use Rattle.meaning.specs.Choice.{pick}
 use Rattle.meaning.specs.Ownership as tree
+use Rattle.checker.specs.declared.slots.Sort.{Sort}
+use Rattle.checker.specs.declared.slots.Sort.TheVariants as sort
+use Rattle.checker.specs.declared.slots.Mode.{Mode}
+use Rattle.checker.specs.declared.slots.Mode.TheVariants as mode
 use Rattle.checker.specs.declared.slots.Want.{Want}
 use Rattle.checker.specs.declared.slots.Want.TheVariants as want
 use Rattle.checker.specs.Bits.{bits_of}
@@ -79,15 +85,52 @@ unfoldable pub test_of : Kind → Want → Bool → ℕ
 test_of k w barred =
     pick (tree.fits (want_of w) (kind_of k)) (pick (used_in k || barred) 9 (pick (tree.sized (want_of w) (kind_of k)) 0 10)) 8
 
--- what a mode's byte asks for, and what it binds
-unfoldable pub want_at : ℕ → Want
-want_at m = pick (eqb m 0) want.Number (pick (eqb m 1) want.Lent want.Owned)
+-- the number of a test's fault, 0 where it has none
+abbrev pub fault_in : Result (Unit {0}) Fault → ℕ
+fault_in (Ok u) = 0
+fault_in (Err f) = fault_number f
+
+-- the sort that a byte says, and the byte of a sort
+unfoldable pub sort_at : ℕ → Sort
+sort_at s = pick (eqb s 0) sort.Number sort.Tree
+
+abbrev pub sort_number : Sort → ℕ
+sort_number sort.Number = 0
+sort_number sort.Tree = 1
+
+-- a flag as a number; by 1 and by it a byte is scaled, whose tree is owned where the flag is set
+abbrev pub digit : Bool → ℕ
+digit false = 0
+digit true = 1
+
+-- the mode that a number says, and what a mode asks for and binds
+unfoldable pub mode_of : ℕ → Mode
+mode_of m = pick (eqb m 0) mode.Number (pick (eqb m 1) mode.Lent mode.Owned)
+
+abbrev pub mode_want : Mode → Want
+mode_want mode.Number = want.Number
+mode_want mode.Lent = want.Lent
+mode_want mode.Owned = want.Owned
+
+abbrev pub mode_kind : Mode → Kind
+mode_kind mode.Number = Number
+mode_kind mode.Lent = Lent
+mode_kind mode.Owned = Owned
+
+-- how a result of a sort is given back and bound
+abbrev pub given : Sort → Mode
+given sort.Number = mode.Number
+given sort.Tree = mode.Owned
+
+-- what a mode's number asks for, what a result's sort asks for, and what a mode's number binds
+abbrev pub want_at : ℕ → Want
+want_at m = mode_want (mode_of m)
 
 unfoldable pub want_back : ℕ → Want
 want_back s = pick (eqb s 0) want.Number want.Owned
 
-unfoldable pub kind_at : ℕ → Kind
-kind_at m = pick (eqb m 0) Number (pick (eqb m 1) Lent Owned)
+abbrev pub kind_at : ℕ → Kind
+kind_at m = mode_kind (mode_of m)
 
 -- the slots with those of a set spent, and the next one bound where there are to be more
 unfoldable pub kept_of : List Slot → (spent bound more : ℕ) → Kind → (at : ℕ) → List Slot

@@ -1,5 +1,5 @@
 -- The square that the noted calls of all bodies make, and what the way to its depth needs of a table. Assumes nothing.
-use Rattle.std.specs.Prelude.{ℕ, ◌+◌, ◌<◌, Bool, true, false, List, get_or}
+use Rattle.std.specs.Prelude.{ℕ, ◌+◌, ◌<◌, false, List, get_or}
 use Rattle.meaning.specs.declared.How.{How}
 use Rattle.meaning.specs.declared.How.TheVariants.{Never, Tail, Waits}
 use Rattle.meaning.specs.Choice.{pick}
@@ -17,12 +17,6 @@ row_of w = upto 32 (way_of w)
 unfoldable pub square_of : (words : List ℕ) → Square
 square_of words = upto 32 (λ f. row_of (get_or words f 0))
 
--- whether the caller waits
-abbrev pub waiting : How → Bool
-waiting Never = false
-waiting Tail = false
-waiting Waits = true
-
--- a table in whose entries there is room for one more
+-- a table whose 32 entries have room for one more
 abbrev pub Low : List ℕ → Type 0
-Low t = (f : ℕ) → get_or t f 0 < 255
+Low t = (f : ℕ) → f < 32 → get_or t f 0 < 255

@@ -1,286 +1,248 @@
 // Bodies, read and checked in one pass, which notes their calls too. Behind a fault of the ownership check the rest is still read, since a
 // file that does not read is refused for that, wherever its other faults stand.
 ghost use Rattle.std.specs.Prelude.{◌≡◌, ◌+◌, ◌≤◌, ◌<◌, length, replicate};
+ghost use Rattle.meaning.specs.Marks.{find_mark, place_of};
+ghost use Rattle.standing.specs.Bytes.{mark_at};
 ghost use Rattle.checker.specs.ReadingBytes.{path, known_count};
 ghost use Rattle.checker.specs.Opening.{Bodied};
 ghost use Rattle.checker.specs.Noting.{note_at};
-ghost use Rattle.checker.specs.Paths.{Head, Placed, term, pair, list};
-ghost use Rattle.checker.specs.Bodies.{Passable, fault_after, place_after, Passed, PassedTwo, PassedAll, PassedBody, Finished};
+ghost use Rattle.checker.specs.Paths.{Head, Placed, term, list};
+ghost use Rattle.checker.specs.Bits.{bits_of};
+ghost use Rattle.checker.specs.Slots.{spent_by, digit};
+ghost use Rattle.checker.specs.Bodies.{Passable, number_in, place_in, fault_after, place_after, NodeTaken, Checked, CheckedAll, CheckedBody, Finished};
 
 use crate::ownership::{
-    bind_all, bound_kind, branch_slots, byte, first_place, head, mark, modes, params, repeats,
-    result_of, second_place, seeing, slot_index, take_many, take_named, takes_many,
+    Modes, bind_all, bound_kind, branch_slots, first_place, head, repeats, result_sort,
+    second_place, seeing, slot_index, take_many, take_named, takes_many,
 };
 use crate::reading::{
-    Path, Reached, Read, Then, expect_mark, read_branch, read_end, read_header, read_node,
+    Header, Path, Then, expect_mark, read_branch, read_end, read_header, read_node,
 };
 use crate::sets::{lowest, without_lowest};
-use crate::slots::{fresh_slots, used};
-use meaning::{BD, BYTES, CL, Kind, Slot, TL};
+use crate::slots::{Sort, fresh_slots, used};
+use meaning::{BYTES, Fault, Mark, Refusal, Slot, find_mark};
+use standing::{Rules, Table};
 
-// The calls of a body, as bits, with that of the record at a place: a CL by the number of its function, a TL by 32 more.
-fn note(file: &[u8], at: usize, m: usize, calls: u64) -> u64
-    requires { at ≤ 4096 }
-    ensures { result ≡ note_at file.now at m calls }
-{
-    match m {
-        CL => seeing(calls, byte(file, at + 2) % 32),
-        TL => seeing(calls, 32 + byte(file, at + 2) % 32),
-        _ => calls,
+// What is noted in the pass: the calls of a body, as bits, and the first fault of the ownership check.
+#[derive(Clone, Copy, Debug, PartialEq, Eq)]
+pub(crate) struct Notes {
+    pub calls: u64,
+    pub fault: Option<Refusal>,
+}
+
+impl Notes {
+    // Notes the call of the record at a place, if it is one: a CL by the number of its function, a TL by 32 more.
+    #[tactic(auto, using(std::proofs::lemmas::Bool::Decides::nat_tests), unfolding(crate::specs::Noting::note_at, meaning::specs::Choice::pick))]
+    fn call(&mut self, rules: Rules, at: usize, mark: Mark)
+        requires { at ≤ 4096 }
+        ensures calls { self.new.calls ≡ note_at rules.entry.file.now at (place_of mark) self.old.calls }
+        ensures fault { self.new.fault ≡ self.old.fault }
+    {
+        let function = rules.byte(at + 2) % 32;
+        match mark {
+            Mark::CL => self.calls = seeing(self.calls, function),
+            Mark::TL => self.calls = seeing(self.calls, 32 + function),
+            _ => {}
+        }
+    }
+
+    // Notes a fault, if there is one and it is the first.
+    #[tactic(auto, using(crate::proofs::bodies::Telling::or_number, crate::proofs::bodies::Telling::or_place))]
+    fn fault(&mut self, fault: Option<Refusal>)
+        ensures calls { self.new.calls ≡ self.old.calls }
+        ensures number { number_in self.new.fault ≡ fault_after (number_in self.old.fault) (number_in fault) }
+        ensures place { place_in self.new.fault ≡ place_after (number_in self.old.fault) (place_in self.old.fault) (number_in fault) (place_in fault) }
+    {
+        self.fault = self.fault.or(fault);
     }
 }
 
-// Notes a fault of the ownership check, its number and its place, if the number is not 0 and it is the first.
-fn note_fault(fault: &mut u32, place: &mut usize, number: u32, at: usize)
-    ensures { (fault.new ≡ fault_after fault.old number) × (place.new ≡ place_after fault.old place.old number at) }
+// The mark at a place within the file. The machine has the same: both ask that it lies there, and a public function would have to test it.
+fn mark(file: &[u8], at: usize) -> Mark
+    requires { (at ≤ 4096) × (at + 1 < length file.now) }
+    ensures { place_of result ≡ find_mark (mark_at file.now at) }
 {
-    if number != 0 {
-        if *fault == 0 {
-            *fault = number;
-            *place = at;
-        }
-    }
+    find_mark(u16::from_be_bytes([file[at], file[at + 1]]))
 }
 
-// The term at a place: one node, and the terms that follow it. Its calls are noted, and the number and the place of the first fault of the
-// ownership check.
-#[cycle(check_branches_check_term_check_two)]
-fn check_term(
-    file: &[u8],
-    decl: &[u32; 128],
-    at: usize,
-    res: usize,
-    slots: [Slot; 32],
-    p: Path,
-    calls: &mut u64,
-    fault: &mut u32,
-    place: &mut usize,
-) -> Read
-    requires { Passable file.now decl.now at p × Placed file.now decl.now (term at) p slots }
-    ensures { Passed file.now decl.now at res slots p calls.old fault.old place.old calls.new fault.new place.new result }
+// The slots of a set become used.
+fn spend(slots: &mut [Slot; 32], spent: u32)
+    ensures { slots.new ≡ spent_by (bits_of 32 spent) slots.old }
 {
-    let n = read_node(file, decl, at, p);
-    let then = n.then;
-    match then {
-        Then::Fault(number, there) => {
-            return Read::Fault(number, there);
-        }
-        _ => {}
-    }
-    let bound = p.slots;
-    let after = n.path;
-    let mut inner = slots;
-    let m = mark(file, at);
-    let one_at = first_place(m, at);
-    let two_at = second_place(m, at);
-    let one = inner[slot_index(file, one_at)];
-    let two = inner[slot_index(file, two_at)];
-    let first = one.kind;
-    let second = two.kind;
-    let mut t = take_named(file, m, one_at, two_at, first, second, bound);
-    if takes_many(m) {
-        t = take_many(file, decl, at, m, res, inner, bound);
-        *calls = note(file, at, m, *calls);
-    }
-    note_fault(fault, place, t.number, t.place);
-    let mut todo = t.spent;
+    let mut todo = spent;
     while todo != 0 {
-        let k = lowest(todo);
-        let slot = inner[k];
-        let was = slot.kind;
-        inner[k] = Slot {
-            kind: used(was),
-            place: slot.place,
-        };
+        let slot = lowest(todo);
+        slots[slot].kind = used(slots[slot].kind);
         todo = without_lowest(todo);
     }
-    if bound < after.slots {
-        inner[bound] = Slot {
-            kind: bound_kind(file, decl, at, m),
+}
+
+// A node's record is taken: of the slots, those that it takes are spent, and the one that it binds, if there is one, is bound; its call is
+// noted, and its fault.
+fn take_node(
+    rules: Rules,
+    at: usize,
+    sort: Sort,
+    bound: usize,
+    after: usize,
+    slots: &mut [Slot; 32],
+    notes: &mut Notes,
+)
+    requires { (at ≤ 4096) × (at + 1 < length rules.file.now) × (bound ≤ 32) × (after ≤ 32) }
+    ensures { NodeTaken rules.entry.file.now rules.entry.table.now.words at sort bound after slots.old notes.old slots.new notes.new }
+{
+    let mark = mark(rules.file, at);
+    let taken = if takes_many(mark) {
+        notes.call(rules, at, mark);
+        take_many(rules, at, mark, sort, *slots, bound)
+    } else {
+        let first = slots[slot_index(rules, first_place(mark, at))].kind;
+        let second = slots[slot_index(rules, second_place(mark, at))].kind;
+        take_named(rules, at, mark, first, second, bound)
+    };
+    notes.fault(taken.err());
+    spend(slots, taken.unwrap_or(0));
+    if bound < after {
+        slots[bound] = Slot {
+            kind: bound_kind(rules, at, mark),
             place: at as u16,
         };
     }
-    match then {
-        Then::Leaf(next) => Read::Next(next),
-        Then::One(next) => { check_term(file, decl, next, res, inner, after, calls, fault, place) }
-        Then::Two(next) => { check_two(file, decl, next, res, inner, after, calls, fault, place) }
-        Then::Many(next, count, credit) => check_branches(
-            file, decl, next, count, credit, res, inner, after, calls, fault, place,
-        ),
-        Then::Fault(number, there) => Read::Fault(number, there),
-    }
 }
 
-// The two terms of an IF, one after the other, each from the same slots.
-#[cycle(check_branches_check_term_check_two)]
-fn check_two(
-    file: &[u8],
-    decl: &[u32; 128],
-    start: usize,
-    res: usize,
+// The term at a place: one node, and the terms that follow it, two of an IF from the same slots.
+#[cycle(check_branches_check_term)]
+fn check_term(
+    rules: Rules,
+    at: usize,
+    sort: Sort,
     slots: [Slot; 32],
-    p: Path,
-    calls: &mut u64,
-    fault: &mut u32,
-    place: &mut usize,
-) -> Read
-    requires { Passable file.now decl.now start p × Placed file.now decl.now (pair start) p slots }
-    ensures { PassedTwo file.now decl.now start res slots p calls.old fault.old place.old calls.new fault.new place.new result }
+    path: Path,
+    notes: &mut Notes,
+) -> Result<usize, Refusal>
+    requires { Passable rules.file.now rules.table.now.words at path × Placed rules.file.now rules.table.now.words (term at) path slots }
+    ensures { Checked rules.entry.file.now rules.entry.table.now.words at sort slots path notes.old notes.new result }
 {
-    match check_term(file, decl, start, res, slots, p, calls, fault, place) {
-        Read::Next(second) => { check_term(file, decl, second, res, slots, p, calls, fault, place) }
-        Read::Fault(number, there) => Read::Fault(number, there),
+    let node = read_node(rules, at, path)?;
+    let mut inner = slots;
+    take_node(
+        rules,
+        at,
+        sort,
+        path.slots,
+        node.path.slots,
+        &mut inner,
+        notes,
+    );
+    match node.then {
+        Then::Leaf(next) => Ok(next),
+        Then::One(next) => check_term(rules, next, sort, inner, node.path, notes),
+        Then::Two(next) => {
+            let second = check_term(rules, next, sort, inner, node.path, notes)?;
+            check_term(rules, second, sort, inner, node.path, notes)
+        }
+        Then::Many(next, count, credit) => {
+            check_branches(rules, next, count, credit, sort, inner, node.path, notes)
+        }
     }
 }
 
 // So many branches from a place on, each from the same slots.
-#[cycle(check_branches_check_term_check_two)]
+#[cycle(check_branches_check_term)]
 fn check_branches(
-    file: &[u8],
-    decl: &[u32; 128],
+    rules: Rules,
     start: usize,
     count: usize,
-    credit: usize,
-    res: usize,
+    credit: bool,
+    sort: Sort,
     slots: [Slot; 32],
-    p: Path,
-    calls: &mut u64,
-    fault: &mut u32,
-    place: &mut usize,
-) -> Read
-    requires { Passable file.now decl.now start p × (credit ≤ 1) × Placed file.now decl.now (list start count credit) p slots }
-    ensures { PassedAll file.now decl.now start count credit res slots p calls.old fault.old place.old calls.new fault.new place.new result }
+    path: Path,
+    notes: &mut Notes,
+) -> Result<usize, Refusal>
+    requires { Passable rules.file.now rules.table.now.words start path × Placed rules.file.now rules.table.now.words (list start count (digit credit)) path slots }
+    ensures { CheckedAll rules.entry.file.now rules.entry.table.now.words start count (digit credit) sort slots path notes.old notes.new result }
 {
     let mut at = start;
-    let mut left = count;
     let mut seen: u64 = 0;
-    while left != 0 {
-        match read_branch(file, decl, at, credit, p.slots) {
-            Read::Fault(number, there) => {
-                return Read::Fault(number, there);
-            }
-            Read::Next(more) => {
-                let c = byte(file, at + 2);
-                note_fault(fault, place, repeats(seen, c), at + 2);
-                let inner = branch_slots(file, decl, c, at, credit, slots, p.slots);
-                let path = Path {
-                    slots: more,
-                    nodes: p.nodes,
-                };
-                match check_term(file, decl, at + 3, res, inner, path, calls, fault, place) {
-                    Read::Next(next) => {
-                        seen = seeing(seen, c);
-                        at = next;
-                        left -= 1;
-                    }
-                    Read::Fault(number, there) => {
-                        return Read::Fault(number, there);
-                    }
-                }
-            }
-        }
+    'branches: for _ in 0..count {
+        let after = read_branch(rules, at, credit, path.slots)?;
+        let constructor = rules.byte(at + 2);
+        notes.fault(repeats(seen, constructor, at + 2));
+        let inner = branch_slots(rules, constructor, at, credit, slots, path.slots);
+        let behind = Path {
+            slots: after,
+            nodes: path.nodes,
+        };
+        at = check_term(rules, at + 3, sort, inner, behind, notes)?;
+        seen = seeing(seen, constructor);
     }
-    Read::Next(at)
+    Ok(at)
 }
 
-// BD and the body of a function, from its parameters; its calls are noted, and the first fault.
-fn check_body(
-    file: &[u8],
-    decl: &[u32; 128],
-    at: usize,
-    f: usize,
-    calls: &mut u64,
-    fault: &mut u32,
-    place: &mut usize,
-) -> Read
-    requires { Passable file.now decl.now at (path 0 0) × (f < 32) × (known_count decl.now f ≤ 8) × Head file.now decl.now f }
-    ensures { PassedBody file.now decl.now at f calls.old fault.old place.old calls.new fault.new place.new result }
+// BD and the body of a function, from its parameters.
+fn check_body(rules: Rules, at: usize, f: usize, notes: &mut Notes) -> Result<usize, Refusal>
+    requires { Passable rules.file.now rules.table.now.words at (path 0 0) × (f < 32) × (known_count rules.table.now.words f ≤ 8) × Head rules.file.now rules.table.now.words f }
+    ensures { CheckedBody rules.entry.file.now rules.entry.table.now.words at f notes.old notes.new result }
 {
-    match expect_mark(file, at, BD) {
-        Read::Fault(number, there) => Read::Fault(number, there),
-        Read::Next(start) => {
-            let n = params(decl, f);
-            let fresh = fresh_slots();
-            let slots = bind_all(file, modes(decl, f), 1, n, head(decl, f), fresh, 0, 0);
-            let result = result_of(file, decl, f);
-            check_term(
-                file,
-                decl,
-                start,
-                result,
-                slots,
-                Path { slots: n, nodes: 0 },
-                calls,
-                fault,
-                place,
-            )
-        }
-    }
+    let start = expect_mark(rules.file, at, Mark::BD)?;
+    let parameters = Modes::of_parameters(rules.table, f);
+    let slots = bind_all(
+        rules,
+        parameters,
+        head(rules.table, f),
+        fresh_slots(),
+        0,
+        false,
+    );
+    let path = Path {
+        slots: parameters.count,
+        nodes: 0,
+    };
+    check_term(rules, start, result_sort(rules, f), slots, path, notes)
 }
 
-// The bodies of so many functions, each one's place into the table and its calls into a word, and the end of the file.
+// The bodies of all functions, behind the header, each one's place into the table and its calls into a word, and the end of the file.
 fn check_bodies(
     file: &[u8],
-    decl: &mut [u32; 128],
+    table: &mut Table,
     calls: &mut [u64; 32],
-    start: usize,
-    count: usize,
-) -> Reached
-    requires { (length file.now ≤ 4096) × Bodied file.now decl.old count 0 start × (calls.old ≡ replicate 32 0) }
-    ensures { Finished file.now decl.new calls.new result }
+    header: Header,
+) -> Result<(), Refusal>
+    requires { (length file.now ≤ 4096) × Bodied file.now table.old.words header.count 0 header.at × (calls.old ≡ replicate 32 0) }
+    ensures { Finished file.now table.new.words calls.new result }
 {
-    let mut f: usize = 0;
-    let mut at: usize = start;
-    let mut fault: u32 = 0;
-    let mut place: usize = 0;
-    while f < count {
-        let mut called: u64 = 0;
-        match check_body(file, decl, at, f, &mut called, &mut fault, &mut place) {
-            Read::Next(next) => {
-                decl[96 + f] = (at + 2) as u32;
-                calls[f] = called;
-                f += 1;
-                at = next;
-            }
-            Read::Fault(number, there) => {
-                return Reached {
-                    count,
-                    at: there,
-                    number,
-                };
-            }
-        }
+    let mut at = header.at;
+    let mut fault = None;
+    for f in 0..header.count {
+        let mut notes = Notes { calls: 0, fault };
+        let next = check_body(Rules { file, table }, at, f, &mut notes)?;
+        table.words[Table::BODIES + f] = (at + 2) as u32;
+        calls[f] = notes.calls;
+        fault = notes.fault;
+        at = next;
     }
-    match read_end(file, at) {
-        Read::Fault(number, there) => Reached {
-            count,
-            at: there,
-            number,
-        },
-        Read::Next(end) => Reached {
-            count,
-            at: place,
-            number: fault,
-        },
+    read_end(file, at)?;
+    match fault {
+        Some(refusal) => Err(refusal),
+        None => Ok(()),
     }
 }
 
-// The whole file, with what it declares in the table and the calls of each body in a word: number is 0 where nothing is wrong, and at says nothing
-// then; else number is the answer 1 to 12 that refuses the file, and at its place.
-pub(crate) fn check_file(file: &[u8], decl: &mut [u32; 128], calls: &mut [u64; 32]) -> Reached
-    requires { (decl.old ≡ replicate 128 255) × (calls.old ≡ replicate 32 0) }
-    ensures { Finished file.now decl.new calls.new result }
+// The whole file, with what it declares in the table and the calls of each body in a word; or why it is refused.
+pub(crate) fn check_file(
+    file: &[u8],
+    table: &mut Table,
+    calls: &mut [u64; 32],
+) -> Result<(), Refusal>
+    requires { (table.old.words ≡ replicate 128 255) × (calls.old ≡ replicate 32 0) }
+    ensures { Finished file.now table.new.words calls.new result }
 {
     if BYTES < file.len() {
-        return Reached {
-            count: 0,
-            at: 0,
-            number: 1,
-        };
+        return Err(Refusal {
+            fault: Fault::TooLong,
+            place: 0,
+        });
     }
-    let header = read_header(file, decl);
-    if header.number != 0 {
-        return header;
-    }
-    check_bodies(file, decl, calls, header.at, header.count)
+    let header = read_header(file, table)?;
+    check_bodies(file, table, calls, header)
 }

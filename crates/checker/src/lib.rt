@@ -8,60 +8,33 @@ mod reading;
 mod sets;
 mod slots;
 
-ghost use Rattle.std.specs.Prelude.{◌≡◌, ◌<◌};
-ghost use Rattle.meaning.specs.Answers.{verdict_of};
-ghost use Rattle.checker.specs.Judging.{refusal, judged_of};
+ghost use Rattle.std.specs.Prelude.{◌≡◌, ◌≤◌, IfErr};
+ghost use Rattle.meaning.specs.Answers.{as_verdict, verdict_of};
+ghost use Rattle.checker.specs.Judging.{as_judged, judged_of};
 
 use crate::bodies::check_file;
 use crate::calls::shape_of;
-use meaning::Verdict;
+use meaning::{Refusal, Shape};
+use standing::Table;
 
-// The table of declarations of an accepted file; or the answer that refuses a file, and its place.
-#[derive(Clone, Copy)]
-pub struct Judged {
-    pub number: u32,
-    pub place: u32,
-    pub table: [u32; 128],
+// The table of declarations of an accepted file; or why it is refused, 1 to 12.
+pub fn judge(file: &[u8]) -> Result<Table, Refusal>
+    ensures judged { as_judged result ≡ judged_of file.now }
+    ensures placed { IfErr result (λ r. r.place ≤ 4096) }
+{
+    let mut table = Table::empty();
+    let mut calls = [0; 32];
+    check_file(file, &mut table, &mut calls)?;
+    Ok(table)
 }
 
-// A file that is refused declares nothing.
-fn refused(number: u32, place: usize) -> Judged
-    requires { place < 4294967296 }
-    ensures { result ≡ refusal number place }
+// The verdict on a file: its shape, or why it is refused.
+pub fn check(file: &[u8]) -> Result<Shape, Refusal>
+    ensures told { as_verdict result ≡ verdict_of file.now }
+    ensures placed { IfErr result (λ r. r.place ≤ 4096) }
 {
-    Judged {
-        number: number,
-        place: place as u32,
-        table: [255; 128],
-    }
-}
-
-// Answers 1 to 12, or the table of an accepted file.
-pub fn judge(file: &[u8]) -> Judged
-    ensures { result ≡ judged_of file.now }
-{
-    let mut table: [u32; 128] = [255; 128];
-    let mut calls: [u64; 32] = [0; 32];
-    let end = check_file(file, &mut table, &mut calls);
-    if end.number != 0 {
-        return refused(end.number, end.at);
-    }
-    Judged {
-        number: 0,
-        place: 0,
-        table: table,
-    }
-}
-
-// The verdict on a file.
-pub fn check(file: &[u8]) -> Verdict
-    ensures { result ≡ verdict_of file.now }
-{
-    let mut table: [u32; 128] = [255; 128];
-    let mut calls: [u64; 32] = [0; 32];
-    let end = check_file(file, &mut table, &mut calls);
-    if end.number != 0 {
-        return Verdict::Refused(end.number, end.at as u32);
-    }
-    shape_of(&calls)
+    let mut table = Table::empty();
+    let mut calls = [0; 32];
+    check_file(file, &mut table, &mut calls)?;
+    Ok(shape_of(&calls))
 }

@@ -1,552 +1,431 @@
 // Reading: answers 1 to 6, over the bytes. No tree is built; what the file declares goes into one table of 128 words.
-ghost use Rattle.std.specs.Prelude.{◌≡◌, [], ◌+◌, ◌*◌, ◌%◌, ◌<◌, ◌≤◌, length};
-ghost use Rattle.meaning.specs.Marks.{find_mark};
-ghost use Rattle.standing.specs.Bytes.{byte_at};
-ghost use Rattle.checker.specs.ReadingBytes.{binds_of, room, known_arity, known_count, atom_field, make_fields, call_fields, open_fields, sum_fields, fields_at, follows_at, limited, node_at, more_of, branch_fields, branch_at, number_at, small_bytes, con_at, fun_at, expect_at, finish_at, end_at};
-ghost use Rattle.checker.specs.Opening.{table_with, ConsRead, Headed, FunsRead, HeaderRead, Ends};
+ghost use Rattle.std.specs.Prelude.{◌≡◌, [], ◌+◌, ◌<◌, ◌≤◌, length, ◌↔◌, IsTrue, IfOk, Err};
+ghost use Rattle.meaning.specs.Marks.{place_of};
+ghost use Rattle.standing.specs.Bytes.{number_at};
+ghost use Rattle.checker.specs.Read.{refusal, as_read, as_mark};
+ghost use Rattle.checker.specs.Node.{as_then, as_node};
+ghost use Rattle.checker.specs.Slots.{digit};
+ghost use Rattle.checker.specs.ReadingBytes.{room, known_arity, known_count, byte_read, mark_read, atom_field, make_fields, call_fields, open_fields, sum_fields, fields_at, follows_at, limited, node_at, more_of, branch_at, small_bytes, counted_at, fun_at, expect_at, end_at};
+ghost use Rattle.checker.specs.Opening.{table_with, HeaderRead, Counted, RecordsRead, mark_number, limit_of, first_of, fields_of};
 
 use meaning::{
-    AR, AT, BR, BRANCHES, CL, CN, CONSTRUCTORS, EARLY, FIELDS, FN, FUNCTIONS, GV, IF, LK, MK, ND,
-    NODES, NU, OP, PARAMETERS, SLOTS, TL, mark_row,
+    BRANCHES, CONSTRUCTORS, FIELDS, FUNCTIONS, Fault, MARK, Mark, NODES, PARAMETERS, Refusal,
+    SLOTS, binds,
 };
+use standing::{Rules, Table, byte_at, entry_word, mark_at};
 
-// The place of a mark in the table of marks.
-fn find_mark(mark: u16) -> usize
-    ensures { result ≡ find_mark mark }
-{
-    meaning::find_mark(mark).place()
-}
+// The greatest byte of a sort, and of a mode.
+const SORT: u8 = 1;
+
+const MODE: u8 = 2;
 
 // The slots and the nodes on a path, from the body's start.
-#[derive(Clone, Copy)]
+#[derive(Clone, Copy, Debug, PartialEq, Eq)]
 pub(crate) struct Path {
     pub slots: usize,
     pub nodes: usize,
 }
 
 // What follows a node, and where; of branches also how many, and whether each binds a credit.
-#[derive(Clone, Copy)]
+#[derive(Clone, Copy, Debug, PartialEq, Eq)]
 pub(crate) enum Then {
     Leaf(usize),
     One(usize),
     Two(usize),
-    Many(usize, usize, usize),
-    Fault(u32, usize),
+    Many(usize, usize, bool),
 }
 
 // A node that was read: what follows it, and the path with it.
-#[derive(Clone, Copy)]
+#[derive(Clone, Copy, Debug, PartialEq, Eq)]
 pub(crate) struct Node {
     pub then: Then,
     pub path: Path,
 }
 
-// Where reading goes on, or the answer that refuses the file and its place.
-#[derive(Clone, Copy)]
-pub(crate) enum Read {
-    Next(usize),
-    Fault(u32, usize),
+// A refusal.
+fn refuse<T>(fault: Fault, place: usize) -> Result<T, Refusal>
+    ensures { result ≡ Err (refusal fault place) }
+{
+    Err(Refusal { fault, place })
 }
 
-// The two bytes of a mark as one number.
-fn pair(a: u8, b: u8) -> u16
-    ensures { result ≡ a * 256 + b }
+// The byte at a place; a file that ends before it is refused.
+#[tactic(auto, unfolding(crate::specs::ReadingBytes::byte_read, meaning::specs::Choice::pick))]
+fn read_byte(file: &[u8], at: usize) -> Result<u8, Refusal>
+    ensures { as_read result ≡ byte_read file.now at }
 {
-    (a as u16) * 256 + (b as u16)
+    file.get(at).copied().ok_or(Refusal {
+        fault: Fault::EndsEarly,
+        place: file.len(),
+    })
 }
 
-// A byte as a number of places.
-fn wide(b: u8) -> usize
-    ensures { result ≡ b }
+// The mark at a place; a file that ends within it is refused.
+#[tactic(auto, using(crate::proofs::reading::Marking::marked, crate::proofs::reading::Marking::unmarked), unfolding(meaning::specs::Choice::pick))]
+fn read_mark(file: &[u8], at: usize) -> Result<Mark, Refusal>
+    ensures { as_mark result ≡ mark_read file.now at }
 {
-    b as usize
+    mark_at(file, at).ok_or(Refusal {
+        fault: Fault::EndsEarly,
+        place: file.len(),
+    })
 }
 
-// The arity of a constructor, 255 where it is not declared.
-fn arity(decl: &[u32; 128], c: usize) -> usize
-    ensures { result ≡ known_arity decl.now c }
+// The place behind a mark that must stand here.
+#[tactic(auto, unfolding(crate::specs::ReadingBytes::expect_at, crate::specs::ReadingBytes::mark_read, meaning::specs::Choice::pick))]
+pub(crate) fn expect_mark(file: &[u8], at: usize, mark: Mark) -> Result<usize, Refusal>
+    ensures { as_read result ≡ expect_at file.now at (place_of mark) }
 {
-    if c < CONSTRUCTORS {
-        (decl[c] % 256) as usize
+    if read_mark(file, at)? != mark {
+        return refuse(Fault::MarkNotAllowed, at);
+    }
+    Ok(at + MARK)
+}
+
+// The arity of a constructor; over every limit where it is not declared.
+#[tactic(auto, unfolding(crate::specs::ReadingBytes::known_arity, meaning::specs::Choice::pick))]
+fn arity(table: &Table, constructor: u8) -> usize
+    ensures { result ≡ known_arity table.now.words constructor }
+{
+    if usize::from(constructor) < CONSTRUCTORS {
+        table.arity(usize::from(constructor))
     } else {
-        255
+        Table::NONE as usize
     }
 }
 
-// How many parameters a function has, 255 where it is not declared.
-fn params(decl: &[u32; 128], f: usize) -> usize
-    ensures { result ≡ known_count decl.now f }
+// How many parameters a function has; over every limit where it is not declared.
+#[tactic(auto, unfolding(crate::specs::ReadingBytes::known_count, meaning::specs::Choice::pick))]
+fn parameters(table: &Table, function: u8) -> usize
+    ensures { result ≡ known_count table.now.words function }
 {
-    if f < FUNCTIONS {
-        (decl[64 + f] % 256) as usize
+    if usize::from(function) < FUNCTIONS {
+        table.parameters(usize::from(function))
     } else {
-        255
+        Table::NONE as usize
     }
 }
 
 // So many more bytes at a place.
-fn room_for(file: &[u8], at: usize, n: usize) -> Read
-    requires { (at ≤ length file.now) × (n ≤ 255) }
-    ensures { result ≡ room file.now at n }
+#[tactic(auto, unfolding(crate::specs::ReadingBytes::room, meaning::specs::Choice::pick))]
+fn room_for(file: &[u8], at: usize, count: usize) -> Result<usize, Refusal>
+    requires { (at ≤ length file.now) × (count ≤ 255) }
+    ensures { as_read result ≡ room file.now at count }
 {
-    if file.len() < at + n {
-        return Read::Fault(2, file.len());
+    if file.len() < at + count {
+        return refuse(Fault::EndsEarly, file.len());
     }
-    Read::Next(at + n)
+    Ok(at + count)
 }
 
 // AT's field: a constructor of arity 0.
-fn atom_field(file: &[u8], decl: &[u32; 128], at: usize) -> Read
-    requires { at ≤ length file.now }
-    ensures { result ≡ atom_field file.now decl.now at }
+#[tactic(auto, unfolding(crate::specs::ReadingBytes::atom_field, crate::specs::ReadingBytes::byte_read, meaning::specs::Choice::pick))]
+fn atom_field(rules: Rules, at: usize) -> Result<usize, Refusal>
+    ensures { as_read result ≡ atom_field rules.entry.file.now rules.entry.table.now.words at }
 {
-    if file.len() <= at {
-        return Read::Fault(2, file.len());
+    if arity(rules.table, read_byte(rules.file, at)?) != 0 {
+        return refuse(Fault::OutOfRange, at);
     }
-    if arity(decl, wide(file[at])) == 0 {
-        return Read::Next(at + 1);
-    }
-    Read::Fault(4, at)
+    Ok(at + 1)
 }
 
 // MK's fields: a constructor of arity 1 or more, a credit slot, and a slot for each field.
-fn make_fields(file: &[u8], decl: &[u32; 128], at: usize) -> Read
-    requires { at ≤ length file.now }
-    ensures { result ≡ make_fields file.now decl.now at }
+#[tactic(auto, unfolding(crate::specs::ReadingBytes::make_fields, crate::specs::ReadingBytes::byte_read, meaning::specs::Choice::pick))]
+fn make_fields(rules: Rules, at: usize) -> Result<usize, Refusal>
+    ensures { as_read result ≡ make_fields rules.entry.file.now rules.entry.table.now.words at }
 {
-    if file.len() <= at {
-        return Read::Fault(2, file.len());
+    let fields = arity(rules.table, read_byte(rules.file, at)?);
+    if fields == 0 || usize::from(FIELDS) < fields {
+        return refuse(Fault::OutOfRange, at);
     }
-    let k = arity(decl, wide(file[at]));
-    if k == 0 {
-        return Read::Fault(4, at);
-    }
-    if 4 < k {
-        return Read::Fault(4, at);
-    }
-    room_for(file, at + 1, k + 1)
+    room_for(rules.file, at + 1, fields + 1)
 }
 
 // CL's and TL's fields: a function, and a slot for each parameter.
-fn call_fields(file: &[u8], decl: &[u32; 128], at: usize) -> Read
-    requires { at ≤ length file.now }
-    ensures { result ≡ call_fields file.now decl.now at }
+#[tactic(auto, unfolding(crate::specs::ReadingBytes::call_fields, crate::specs::ReadingBytes::byte_read, meaning::specs::Choice::pick))]
+fn call_fields(rules: Rules, at: usize) -> Result<usize, Refusal>
+    ensures { as_read result ≡ call_fields rules.entry.file.now rules.entry.table.now.words at }
 {
-    if file.len() <= at {
-        return Read::Fault(2, file.len());
+    let count = parameters(rules.table, read_byte(rules.file, at)?);
+    if usize::from(PARAMETERS) < count {
+        return refuse(Fault::OutOfRange, at);
     }
-    let k = params(decl, wide(file[at]));
-    if 8 < k {
-        return Read::Fault(4, at);
-    }
-    room_for(file, at + 1, k)
+    room_for(rules.file, at + 1, count)
 }
 
 // OP's and LK's fields: a slot, and how many branches.
-fn open_fields(file: &[u8], at: usize) -> Read
+#[tactic(auto, unfolding(crate::specs::ReadingBytes::open_fields, crate::specs::ReadingBytes::byte_read, meaning::specs::Choice::pick))]
+fn open_fields(file: &[u8], at: usize) -> Result<usize, Refusal>
     requires { at ≤ length file.now }
-    ensures { result ≡ open_fields file.now at }
+    ensures { as_read result ≡ open_fields file.now at }
 {
-    if file.len() <= at + 1 {
-        return Read::Fault(2, file.len());
+    let branches = read_byte(file, at + 1)?;
+    if branches == 0 || BRANCHES < branches {
+        return refuse(Fault::OutOfRange, at + 1);
     }
-    let n = file[at + 1];
-    if n == 0 {
-        return Read::Fault(4, at + 1);
-    }
-    if BRANCHES < n {
-        return Read::Fault(4, at + 1);
-    }
-    Read::Next(at + 2)
+    Ok(at + 2)
 }
 
-// AR's fields: an operation, and two slots.
-fn sum_fields(file: &[u8], at: usize) -> Read
-    requires { at ≤ length file.now }
-    ensures { result ≡ sum_fields file.now at }
+// AR's fields: one of four operations, and two slots.
+#[tactic(auto, unfolding(crate::specs::ReadingBytes::sum_fields, crate::specs::ReadingBytes::byte_read, meaning::specs::Choice::pick))]
+fn sum_fields(file: &[u8], at: usize) -> Result<usize, Refusal>
+    ensures { as_read result ≡ sum_fields file.now at }
 {
-    if file.len() <= at {
-        return Read::Fault(2, file.len());
-    }
-    if 3 < file[at] {
-        return Read::Fault(4, at);
+    if 3 < read_byte(file, at)? {
+        return refuse(Fault::OutOfRange, at);
     }
     room_for(file, at + 1, 2)
 }
 
-// The fixed fields of the node with this mark, which stands at `at`.
-fn fields(file: &[u8], decl: &[u32; 128], at: usize, mark: usize) -> Read
-    requires { at + 2 ≤ length file.now }
-    ensures { result ≡ fields_at file.now decl.now at mark }
+// The place behind the fixed fields of the node with this mark, which stands at a place.
+#[tactic(auto, unfolding(crate::specs::ReadingBytes::fields_at, meaning::specs::Choice::pick))]
+fn fields(rules: Rules, at: usize, mark: Mark) -> Result<usize, Refusal>
+    requires { at + 2 ≤ length rules.file.now }
+    ensures { as_read result ≡ fields_at rules.entry.file.now rules.entry.table.now.words at (place_of mark) }
 {
+    let start = at + MARK;
     match mark {
-        GV => room_for(file, at + 2, 1),
-        AT => atom_field(file, decl, at + 2),
-        MK => make_fields(file, decl, at + 2),
-        CL => call_fields(file, decl, at + 2),
-        TL => call_fields(file, decl, at + 2),
-        OP => open_fields(file, at + 2),
-        LK => open_fields(file, at + 2),
-        NU => room_for(file, at + 2, 2),
-        AR => sum_fields(file, at + 2),
-        IF => room_for(file, at + 2, 1),
-        _ => Read::Fault(3, at),
+        Mark::GV | Mark::IF => room_for(rules.file, start, 1),
+        Mark::AT => atom_field(rules, start),
+        Mark::MK => make_fields(rules, start),
+        Mark::CL | Mark::TL => call_fields(rules, start),
+        Mark::OP | Mark::LK => open_fields(rules.file, start),
+        Mark::NU => room_for(rules.file, start, 2),
+        Mark::AR => sum_fields(rules.file, start),
+        Mark::CN | Mark::FN | Mark::BD | Mark::ND | Mark::BR | Mark::Other => {
+            refuse(Fault::MarkNotAllowed, at)
+        }
     }
 }
 
-// The byte at a place, 0 past the end.
-fn byte_at(file: &[u8], at: usize) -> usize
-    ensures { result ≡ byte_at file.now at }
-{
-    if at < file.len() { wide(file[at]) } else { 0 }
-}
-
-// What follows a node that was read.
-fn follows(file: &[u8], at: usize, mark: usize, next: usize) -> Then
+// What follows the node with this mark at a place, from the next place on.
+#[tactic(auto, unfolding(crate::specs::ReadingBytes::follows_at, meaning::specs::Choice::pick))]
+fn follows(file: &[u8], at: usize, mark: Mark, next: usize) -> Then
     requires { at + 2 ≤ length file.now }
-    ensures { result ≡ follows_at file.now at mark next }
+    ensures { as_then result ≡ follows_at file.now at (place_of mark) next }
 {
     match mark {
-        GV => Then::Leaf(next),
-        TL => Then::Leaf(next),
-        OP => Then::Many(next, byte_at(file, at + 3), 1),
-        LK => Then::Many(next, byte_at(file, at + 3), 0),
-        IF => Then::Two(next),
+        Mark::GV | Mark::TL => Then::Leaf(next),
+        Mark::OP => Then::Many(next, byte_at(file, at + 3), true),
+        Mark::LK => Then::Many(next, byte_at(file, at + 3), false),
+        Mark::IF => Then::Two(next),
         _ => Then::One(next),
     }
 }
 
-// How many slots a mark's record binds, by the table.
-fn binds(mark: usize) -> usize
-    ensures { (result ≡ binds_of mark) × (result ≤ 5) }
+// The node with this mark at a place, behind its fields: its limits, and what follows it from the next place on.
+#[tactic(auto, unfolding(crate::specs::ReadingBytes::limited, crate::specs::ReadingBytes::binds_of, meaning::specs::Choice::pick, meaning::specs::Marks::row_at))]
+fn limits(file: &[u8], at: usize, mark: Mark, path: Path, next: usize) -> Result<Node, Refusal>
+    requires { (at + 2 ≤ length file.now) × (path.slots ≤ 32) × (path.nodes ≤ 64) }
+    ensures { as_node path result ≡ limited file.now at (place_of mark) path next }
 {
-    let row = mark_row(mark);
-    wide(row.binds)
-}
-
-// The node with this mark at `at`, behind its fields: its limits, and what follows it at `next`.
-fn limits(file: &[u8], at: usize, mark: usize, p: Path, next: usize) -> Node
-    requires { (at + 2 ≤ length file.now) × (p.slots ≤ 32) × (p.nodes ≤ 64) }
-    ensures { result ≡ limited file.now at mark p next }
-{
-    let slots = p.slots + binds(mark);
-    if NODES <= p.nodes {
-        return Node {
-            then: Then::Fault(5, at),
-            path: p,
-        };
+    let slots = path.slots + binds(mark.place());
+    if NODES <= path.nodes || SLOTS < slots {
+        return refuse(Fault::LimitPassed, at);
     }
-    if SLOTS < slots {
-        return Node {
-            then: Then::Fault(5, at),
-            path: p,
-        };
-    }
-    let t = follows(file, at, mark, next);
-    Node {
-        then: t,
+    Ok(Node {
+        then: follows(file, at, mark, next),
         path: Path {
-            slots: slots,
-            nodes: p.nodes + 1,
+            slots,
+            nodes: path.nodes + 1,
         },
-    }
+    })
 }
 
 // The node at a place: its mark, its fields, its limits, and what follows it.
-pub(crate) fn read_node(file: &[u8], decl: &[u32; 128], at: usize, p: Path) -> Node
-    requires { (at ≤ length file.now) × (p.slots ≤ 32) × (p.nodes ≤ 64) }
-    ensures { result ≡ node_at file.now decl.now at p }
+#[tactic(auto, unfolding(crate::specs::ReadingBytes::node_at, crate::specs::ReadingBytes::node_of, crate::specs::ReadingBytes::after_fields, crate::specs::ReadingBytes::mark_read, meaning::specs::Choice::pick))]
+pub(crate) fn read_node(rules: Rules, at: usize, path: Path) -> Result<Node, Refusal>
+    requires { (path.slots ≤ 32) × (path.nodes ≤ 64) }
+    ensures { as_node path result ≡ node_at rules.entry.file.now rules.entry.table.now.words at path }
 {
-    if file.len() < at + 2 {
-        return Node {
-            then: Then::Fault(2, file.len()),
-            path: p,
-        };
-    }
-    let mark = find_mark(pair(file[at], file[at + 1]));
-    match fields(file, decl, at, mark) {
-        Read::Fault(number, place) => Node {
-            then: Then::Fault(number, place),
-            path: p,
-        },
-        Read::Next(next) => limits(file, at, mark, p, next),
+    let mark = read_mark(rules.file, at)?;
+    let next = fields(rules, at, mark)?;
+    limits(rules.file, at, mark, path, next)
+}
+
+// How many slots a branch of so many fields binds.
+#[tactic(auto, unfolding(crate::specs::ReadingBytes::more_of, meaning::specs::Choice::pick))]
+fn bound_by(fields: usize, credit: bool) -> usize
+    requires { fields ≤ 4 }
+    ensures { (result ≡ more_of fields (digit credit)) × (result ≤ 5) }
+{
+    if fields == 0 {
+        0
+    } else {
+        fields + usize::from(credit)
     }
 }
 
-// How many slots a branch of arity k binds.
-fn bound_by(k: usize, credit: usize) -> usize
-    requires { (k ≤ 4) × (credit ≤ 1) }
-    ensures { (result ≡ more_of k credit) × (result ≤ 5) }
-{
-    if k == 0 {
-        return 0;
-    }
-    k + credit
-}
-
-// Behind a branch's mark at `at`: the slots after its record, or the fault. credit is 1 where it binds one.
-fn branch_fields(file: &[u8], decl: &[u32; 128], at: usize, credit: usize, slots: usize) -> Read
-    requires { (at + 2 ≤ length file.now) × (credit ≤ 1) × (slots ≤ 32) }
-    ensures { result ≡ branch_fields file.now decl.now at credit slots }
-{
-    if file.len() <= at + 2 {
-        return Read::Fault(2, file.len());
-    }
-    let k = arity(decl, wide(file[at + 2]));
-    if 4 < k {
-        return Read::Fault(4, at + 2);
-    }
-    let bound = slots + bound_by(k, credit);
-    if SLOTS < bound {
-        return Read::Fault(5, at);
-    }
-    Read::Next(bound)
-}
-
-// A branch's record at `at`: the slots after it, or the fault.
+// A branch's record at a place: the slots after it, of so many before it.
+#[tactic(auto, unfolding(crate::specs::ReadingBytes::branch_by, crate::specs::ReadingBytes::branch_fields_by, crate::specs::ReadingBytes::fitting, crate::specs::ReadingBytes::expect_at, crate::specs::ReadingBytes::byte_read, meaning::specs::Choice::pick))]
 pub(crate) fn read_branch(
-    file: &[u8],
-    decl: &[u32; 128],
+    rules: Rules,
     at: usize,
-    credit: usize,
+    credit: bool,
     slots: usize,
-) -> Read
-    requires { (at ≤ length file.now) × (credit ≤ 1) × (slots ≤ 32) }
-    ensures { result ≡ branch_at file.now decl.now at credit slots }
+) -> Result<usize, Refusal>
+    requires { slots ≤ 32 }
+    ensures { as_read result ≡ branch_at rules.entry.file.now rules.entry.table.now.words at (digit credit) slots }
 {
-    if file.len() < at + 2 {
-        return Read::Fault(2, file.len());
+    let place = expect_mark(rules.file, at, Mark::BR)?;
+    let fields = arity(rules.table, read_byte(rules.file, place)?);
+    if usize::from(FIELDS) < fields {
+        return refuse(Fault::OutOfRange, place);
     }
-    if find_mark(pair(file[at], file[at + 1])) == BR {
-        return branch_fields(file, decl, at, credit, slots);
+    let after = slots + bound_by(fields, credit);
+    if SLOTS < after {
+        return refuse(Fault::LimitPassed, at);
     }
-    Read::Fault(3, at)
+    Ok(after)
 }
 
-// The mark at a place, 16 where the file ends within it.
-fn mark_at(file: &[u8], at: usize) -> usize
+// So many bytes from a place on, each at most the greatest.
+#[tactic(auto, using(crate::proofs::reading::Steps::small_none, crate::proofs::reading::Steps::small_turn), unfolding(crate::specs::ReadingBytes::byte_read, meaning::specs::Choice::pick))]
+fn small_bytes(file: &[u8], at: usize, count: u8, greatest: u8) -> Result<usize, Refusal>
     requires { at ≤ length file.now }
-    ensures { result ≡ number_at file.now at }
+    ensures ends { as_read result ≡ small_bytes count file.now at greatest }
+    ensures inside { IfOk result (λ end. (at ≤ end) × (end ≤ length file.now)) }
 {
-    if file.len() < at + 2 {
-        return EARLY;
-    }
-    find_mark(pair(file[at], file[at + 1]))
-}
-
-// k bytes, each at most top.
-fn small_bytes(file: &[u8], at: usize, k: usize, top: u8) -> Read
-    requires { at ≤ length file.now }
-    ensures { result ≡ small_bytes k file.now at top }
-{
-    let mut j: usize = 0;
-    let mut p: usize = at;
-    while j < k {
-        if file.len() <= p {
-            return Read::Fault(2, file.len());
+    let end = at + usize::from(count);
+    for place in at..end {
+        if greatest < read_byte(file, place)? {
+            return refuse(Fault::OutOfRange, place);
         }
-        if top < file[p] {
-            return Read::Fault(4, p);
+    }
+    Ok(end)
+}
+
+// How many bytes follow, at most so many, and then the bytes, each at most the greatest.
+#[tactic(auto, unfolding(crate::specs::ReadingBytes::counted_at, crate::specs::ReadingBytes::byte_read, meaning::specs::Choice::pick))]
+fn counted_bytes(file: &[u8], at: usize, most: u8, greatest: u8) -> Result<usize, Refusal>
+    ensures ends { as_read result ≡ counted_at file.now at most greatest }
+    ensures inside { IfOk result (λ end. (at < end) × (end ≤ length file.now)) }
+{
+    let count = read_byte(file, at)?;
+    if most < count {
+        return refuse(Fault::OutOfRange, at);
+    }
+    small_bytes(file, at + 1, count, greatest)
+}
+
+// The records of a header: those that declare constructors, and those that declare functions.
+#[derive(Clone, Copy, Debug, PartialEq, Eq)]
+enum Records {
+    Constructors,
+    Functions,
+}
+
+impl Records {
+    // The mark of each.
+    fn mark(self) -> Mark
+        ensures { place_of result ≡ mark_number self }
+    {
+        match self {
+            Records::Constructors => Mark::CN,
+            Records::Functions => Mark::FN,
         }
-        p += 1;
-        j += 1;
     }
-    Read::Next(p)
-}
 
-// CN's fields, behind its mark.
-fn read_con(file: &[u8], at: usize) -> Read
-    requires { at ≤ length file.now }
-    ensures { result ≡ con_at file.now at }
-{
-    if file.len() <= at {
-        return Read::Fault(2, file.len());
+    // Whether one stands at a place.
+    #[tactic(auto, using(meaning::proofs::Table::one_place, meaning::proofs::Table::place_below), unfolding(standing::specs::Bytes::number_at, meaning::specs::Choice::pick))]
+    fn stands(self, file: &[u8], at: usize) -> bool
+        ensures stands { IsTrue result ↔ (number_at file.now at ≡ mark_number self) }
+        ensures inside { IsTrue result → at + 2 ≤ length file.now }
+    {
+        mark_at(file, at) == Some(self.mark())
     }
-    let k = file[at];
-    if FIELDS < k {
-        return Read::Fault(4, at);
-    }
-    small_bytes(file, at + 1, wide(k), 1)
-}
 
-// FN's fields, behind its mark.
-fn read_fun(file: &[u8], at: usize) -> Read
-    requires { at ≤ length file.now }
-    ensures { result ≡ fun_at file.now at }
-{
-    if file.len() <= at {
-        return Read::Fault(2, file.len());
+    // How many there may be.
+    fn limit(self) -> usize
+        ensures { result ≡ limit_of self }
+    {
+        match self {
+            Records::Constructors => CONSTRUCTORS,
+            Records::Functions => FUNCTIONS,
+        }
     }
-    let k = file[at];
-    if PARAMETERS < k {
-        return Read::Fault(4, at);
-    }
-    match small_bytes(file, at + 1, wide(k), 2) {
-        Read::Fault(number, place) => Read::Fault(number, place),
-        Read::Next(next) => small_bytes(file, next, 1, 1),
-    }
-}
 
-// What the table holds of a record whose count k is at `at`: the count, and 256 times the place behind it.
-fn entry_word(k: u8, at: usize) -> u32
-    requires { at < 4096 }
-    ensures { (result ≡ k + 256 * (at + 1)) × (result % 256 ≡ k) }
-{
-    (k as u32) + 256 * ((at + 1) as u32)
-}
-
-// This mark at a place: the place behind it, or the fault.
-pub(crate) fn expect_mark(file: &[u8], at: usize, mark: usize) -> Read
-    requires { at ≤ length file.now }
-    ensures { result ≡ expect_at file.now at mark }
-{
-    if file.len() < at + 2 {
-        return Read::Fault(2, file.len());
+    // The word of the first one in the table.
+    fn first(self) -> usize
+        ensures { result ≡ first_of self }
+    {
+        match self {
+            Records::Constructors => 0,
+            Records::Functions => Table::FUNCTIONS,
+        }
     }
-    if find_mark(pair(file[at], file[at + 1])) == mark {
-        return Read::Next(at + 2);
-    }
-    Read::Fault(3, at)
-}
 
-// The end of the file stands here.
-fn finish(file: &[u8], at: usize) -> Read
-    requires { at ≤ length file.now }
-    ensures { result ≡ finish_at file.now at }
-{
-    if at < file.len() {
-        return Read::Fault(6, at);
-    }
-    Read::Next(at)
-}
-
-// ND, and nothing behind it.
-pub(crate) fn read_end(file: &[u8], at: usize) -> Read
-    requires { at ≤ length file.now }
-    ensures { result ≡ end_at file.now at }
-{
-    match expect_mark(file, at, ND) {
-        Read::Fault(number, place) => Read::Fault(number, place),
-        Read::Next(next) => finish(file, next),
+    // The place behind the fields of one: a constructor's sorts, or a function's modes and the sort of its result.
+    #[tactic(auto, unfolding(crate::specs::ReadingBytes::con_at, crate::specs::ReadingBytes::fun_at, crate::specs::ReadingBytes::on_next, meaning::specs::Choice::pick))]
+    fn fields(self, file: &[u8], at: usize) -> Result<usize, Refusal>
+        ensures ends { as_read result ≡ fields_of self file.now at }
+        ensures inside { IfOk result (λ end. (at < end) × (end ≤ length file.now)) }
+    {
+        match self {
+            Records::Constructors => counted_bytes(file, at, FIELDS, SORT),
+            Records::Functions => {
+                let result = counted_bytes(file, at, PARAMETERS, MODE)?;
+                small_bytes(file, result, 1, SORT)
+            }
+        }
     }
 }
 
-// So many records are read and reading stands at a place, with number 0; or number is the answer that refuses the file there.
-#[derive(Clone, Copy)]
-pub(crate) struct Reached {
+// How many records were read, and the place behind them.
+#[derive(Clone, Copy, Debug, PartialEq, Eq)]
+pub(crate) struct Header {
     pub count: usize,
     pub at: usize,
-    pub number: u32,
 }
 
-// The constructors; each one's word goes into the table.
-fn read_cons(file: &[u8], decl: &mut [u32; 128]) -> Reached
-    requires { (length file.now ≤ 4096) × (decl.old ≡ table_with [] [] []) }
-    ensures { ConsRead file.now decl.new result }
+// The records of one kind from a place on; each one's word goes into the table.
+fn read_records(
+    file: &[u8],
+    table: &mut Table,
+    start: usize,
+    records: Records,
+) -> Result<Header, Refusal>
+    requires { (length file.now ≤ 4096) × Counted records file.now table.old.words 0 start }
+    ensures { RecordsRead records file.now table.new.words result }
 {
-    let mut n: usize = 0;
-    let mut at: usize = 0;
-    while mark_at(file, at) == CN {
-        match read_con(file, at + 2) {
-            Read::Fault(number, place) => {
-                return Reached {
-                    count: n,
-                    at: place,
-                    number: number,
-                };
-            }
-            Read::Next(next) => {
-                if CONSTRUCTORS <= n {
-                    return Reached {
-                        count: n,
-                        at: at,
-                        number: 5,
-                    };
-                }
-                decl[n] = entry_word(file[at + 2], at + 2);
-                n += 1;
-                at = next;
-            }
-        }
-    }
-    Reached {
-        count: n,
-        at: at,
-        number: 0,
-    }
-}
-
-// The functions, behind the constructors; each one's word goes into the table.
-fn read_funs(file: &[u8], decl: &mut [u32; 128], start: usize) -> Reached
-    requires { (length file.now ≤ 4096) × Headed file.now decl.old 0 start × (number_at file.now start ≡ 0 → ⊥) }
-    ensures { FunsRead file.now decl.new result }
-{
-    let mut n: usize = 0;
+    let mut count: usize = 0;
     let mut at: usize = start;
-    while mark_at(file, at) == FN {
-        match read_fun(file, at + 2) {
-            Read::Fault(number, place) => {
-                return Reached {
-                    count: n,
-                    at: place,
-                    number: number,
-                };
-            }
-            Read::Next(next) => {
-                if FUNCTIONS <= n {
-                    return Reached {
-                        count: n,
-                        at: at,
-                        number: 5,
-                    };
-                }
-                decl[64 + n] = entry_word(file[at + 2], at + 2);
-                n += 1;
-                at = next;
-            }
+    // The new form, a `for`, is no plainer: the records end where another mark stands, and not after a count.
+    while records.stands(file, at) {
+        let place = at + MARK;
+        let next = records.fields(file, place)?;
+        if records.limit() <= count {
+            return refuse(Fault::LimitPassed, at);
         }
+        table.words[records.first() + count] = entry_word(file[place], (place + 1) as u16);
+        count += 1;
+        at = next;
     }
-    Reached {
-        count: n,
-        at: at,
-        number: 0,
-    }
+    Ok(Header { count, at })
 }
 
-// A file without a function, behind its constructors: a mark is missing or not allowed here.
-fn no_function(file: &[u8], decl: &[u32; 128], at: usize) -> Reached
-    requires { (length file.now ≤ 4096) × Headed file.now decl.now 0 at × (number_at file.now at ≡ 0 → ⊥) × (number_at file.now at ≡ 1 → ⊥) }
-    ensures { Ends file.now decl.now result.count result.at result.number }
+// The constructors and the functions of a file, with what they declare in the table, up to the first body: how many functions there are, and its place.
+pub(crate) fn read_header(file: &[u8], table: &mut Table) -> Result<Header, Refusal>
+    requires { (length file.now ≤ 4096) × (table.old.words ≡ table_with [] [] []) }
+    ensures { HeaderRead file.now table.new.words result }
 {
-    if file.len() < at + 2 {
-        return Reached {
-            count: 0,
-            at: file.len(),
-            number: 2,
-        };
+    let constructors = read_records(file, table, 0, Records::Constructors)?;
+    let functions = read_records(file, table, constructors.at, Records::Functions)?;
+    if functions.count == 0 {
+        read_mark(file, functions.at)?;
+        return refuse(Fault::MarkNotAllowed, functions.at);
     }
-    Reached {
-        count: 0,
-        at: at,
-        number: 3,
-    }
+    Ok(functions)
 }
 
-// The constructors and the functions of a file, with what they declare in the table, up to the first body.
-pub(crate) fn read_header(file: &[u8], decl: &mut [u32; 128]) -> Reached
-    requires { (length file.now ≤ 4096) × (decl.old ≡ table_with [] [] []) }
-    ensures { HeaderRead file.now decl.new result }
+// ND, and nothing behind it: the place behind it, where the file ends.
+#[tactic(auto, unfolding(crate::specs::ReadingBytes::end_at, crate::specs::ReadingBytes::on_next, crate::specs::ReadingBytes::finish_at, meaning::specs::Choice::pick))]
+pub(crate) fn read_end(file: &[u8], at: usize) -> Result<usize, Refusal>
+    ensures { as_read result ≡ end_at file.now at }
 {
-    let cons = read_cons(file, decl);
-    if cons.number != 0 {
-        return cons;
+    let end = expect_mark(file, at, Mark::ND)?;
+    if end < file.len() {
+        return refuse(Fault::BytesBehind, end);
     }
-    let funs = read_funs(file, decl, cons.at);
-    if funs.number != 0 {
-        return funs;
-    }
-    if funs.count == 0 {
-        return no_function(file, decl, funs.at);
-    }
-    funs
+    Ok(end)
 }

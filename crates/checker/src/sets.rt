@@ -1,4 +1,8 @@
 // Sets of at most 32 members, as the bits of a word: of slots in the ownership check, of functions in the calls.
+// A set is the u32 itself, as document 01 has it: the definitions of the ownership check speak of that number (`Taken.spent`), and a type round it
+// would be opened and closed at each of its uses.
+#![tactic(auto, using(crate::proofs::sets::Digits::laws))]
+
 ghost use Rattle.std.specs.Prelude.{◌≡◌, true, false, ◌^◌, ◌<◌, ◌≤◌, set, get_or};
 ghost use Rattle.std.specs.Int.Bits.{bit_or};
 ghost use Rattle.meaning.specs.Sets.{first, how_many, zip, or, except};

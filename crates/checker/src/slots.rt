@@ -1,15 +1,88 @@
 // The slots of a path: what a record may ask of one, and slots spent and bound.
-ghost use Rattle.std.specs.Prelude.{◌≡◌, ◌≤◌, replicate};
-ghost use Rattle.meaning.specs.Ownership.{fits, sized, leftover, remains};
-ghost use Rattle.meaning.specs.Ownership as tree;
+ghost use Rattle.std.specs.Prelude.{◌≡◌, ◌+◌, ◌*◌, ◌≤◌, replicate};
+ghost use Rattle.meaning.specs.Ownership.{fits, sized, remains, leftover};
 ghost use Rattle.checker.specs.Bits.{bits_of};
-ghost use Rattle.checker.specs.Slots.{kind_of, used_in, used_kind, now_kind, want_of, spends_of, test_of, kind_at, want_at, want_back, slots_of, spent_by, unbound};
+ghost use Rattle.checker.specs.Slots.{kind_of, used_in, used_kind, now_kind, want_of, spends_of, test_of, fault_in, sort_at, digit, mode_of, mode_want, mode_kind, given, slots_of, spent_by, unbound};
 
 use crate::sets::has;
-use meaning::{Kind, Slot};
+use meaning::{Fault, Kind, Slot};
+
+// The sort of a function's result.
+#[derive(Clone, Copy, Debug, PartialEq, Eq)]
+pub(crate) enum Sort {
+    Number,
+    Tree,
+}
+
+impl Sort {
+    // The sort that a byte says.
+    #[tactic(auto, unfolding(crate::specs::Slots::sort_at, meaning::specs::Choice::pick))]
+    pub(crate) fn of(byte: usize) -> Sort
+        ensures { result ≡ sort_at byte }
+    {
+        match byte {
+            0 => Sort::Number,
+            _ => Sort::Tree,
+        }
+    }
+
+    // A result is given back, and bound, as a number or as an owned tree.
+    pub(crate) fn mode(self) -> Mode
+        ensures { result ≡ given self }
+    {
+        match self {
+            Sort::Number => Mode::Number,
+            Sort::Tree => Mode::Owned,
+        }
+    }
+}
+
+// How a parameter or a field is handed over: as a number, a lent tree or an owned one.
+#[derive(Clone, Copy, Debug, PartialEq, Eq)]
+pub(crate) enum Mode {
+    Number,
+    Lent,
+    Owned,
+}
+
+impl Mode {
+    // The mode that a byte says. A parameter's byte is its mode, and a field's its sort, whose tree is lent, or owned where `owned` is set.
+    #[tactic(auto, using(crate::proofs::ownership::Turns::mode_owned), unfolding(crate::specs::Slots::mode_of, meaning::specs::Choice::pick))]
+    pub(crate) fn of(byte: usize, owned: bool) -> Mode
+        ensures { result ≡ mode_of (byte * (1 + digit owned)) }
+    {
+        match byte {
+            0 => Mode::Number,
+            1 if !owned => Mode::Lent,
+            _ => Mode::Owned,
+        }
+    }
+
+    // What is asked of the slot that is handed over.
+    pub(crate) fn want(self) -> Want
+        ensures { result ≡ mode_want self }
+    {
+        match self {
+            Mode::Number => Want::Number,
+            Mode::Lent => Want::Lent,
+            Mode::Owned => Want::Owned,
+        }
+    }
+
+    // The kind of slot that is bound by it.
+    pub(crate) fn kind(self) -> Kind
+        ensures { result ≡ mode_kind self }
+    {
+        match self {
+            Mode::Number => Kind::Number,
+            Mode::Lent => Kind::Lent,
+            Mode::Owned => Kind::Owned,
+        }
+    }
+}
 
 // What a record asks of a slot: a number, a lent tree to look at, a tree to lend, an owned tree, or a credit of a size.
-#[derive(Clone, Copy)]
+#[derive(Clone, Copy, Debug, PartialEq, Eq)]
 pub(crate) enum Want {
     Number,
     Looked,
@@ -18,159 +91,52 @@ pub(crate) enum Want {
     Credit(u8),
 }
 
-// Is it a number?
-fn is_number(kind: Kind) -> bool
-    ensures { result ≡ fits tree.Want.number (kind_of kind) }
-{
-    match kind {
-        Kind::Number => true,
-        Kind::Lent => false,
-        Kind::Owned => false,
-        Kind::Credit(size) => false,
-        Kind::UsedOwned => false,
-        Kind::UsedCredit(size) => false,
-    }
-}
-
-// Is it a lent tree?
-fn is_lent(kind: Kind) -> bool
-    ensures { result ≡ fits tree.Want.looked (kind_of kind) }
-{
-    match kind {
-        Kind::Number => false,
-        Kind::Lent => true,
-        Kind::Owned => false,
-        Kind::Credit(size) => false,
-        Kind::UsedOwned => false,
-        Kind::UsedCredit(size) => false,
-    }
-}
-
-// Is it a tree, lent or owned?
-fn is_tree(kind: Kind) -> bool
-    ensures { result ≡ fits tree.Want.lent (kind_of kind) }
-{
-    match kind {
-        Kind::Number => false,
-        Kind::Lent => true,
-        Kind::Owned => true,
-        Kind::Credit(size) => false,
-        Kind::UsedOwned => true,
-        Kind::UsedCredit(size) => false,
-    }
-}
-
-// Is it an owned tree, used or not?
-fn is_owned(kind: Kind) -> bool
-    ensures { result ≡ fits tree.Want.owned (kind_of kind) }
-{
-    match kind {
-        Kind::Number => false,
-        Kind::Lent => false,
-        Kind::Owned => true,
-        Kind::Credit(size) => false,
-        Kind::UsedOwned => true,
-        Kind::UsedCredit(size) => false,
-    }
-}
-
-// Is it a credit, used or not?
-fn is_credit(kind: Kind) -> bool
-    ensures { result ≡ fits (tree.Want.credit 0) (kind_of kind) }
-{
-    match kind {
-        Kind::Number => false,
-        Kind::Lent => false,
-        Kind::Owned => false,
-        Kind::Credit(size) => true,
-        Kind::UsedOwned => false,
-        Kind::UsedCredit(size) => true,
-    }
-}
-
-// Is it used?
-fn is_used(kind: Kind) -> bool
-    ensures { result ≡ used_in kind }
-{
-    match kind {
-        Kind::Number => false,
-        Kind::Lent => false,
-        Kind::Owned => false,
-        Kind::Credit(size) => false,
-        Kind::UsedOwned => true,
-        Kind::UsedCredit(size) => true,
-    }
-}
-
-// Is it, where it is a credit, one of the size?
-fn has_size(kind: Kind, size: u8) -> bool
-    ensures { result ≡ sized (tree.Want.credit size) (kind_of kind) }
-{
-    match kind {
-        Kind::Number => true,
-        Kind::Lent => true,
-        Kind::Owned => true,
-        Kind::Credit(held) => size == held,
-        Kind::UsedOwned => true,
-        Kind::UsedCredit(held) => size == held,
-    }
-}
-
-// Is the kind right (else 8)?
-fn suits(kind: Kind, want: Want) -> bool
-    ensures { result ≡ fits (want_of want) (kind_of kind) }
-{
-    match want {
-        Want::Number => is_number(kind),
-        Want::Looked => is_lent(kind),
-        Want::Lent => is_tree(kind),
-        Want::Owned => is_owned(kind),
-        Want::Credit(size) => is_credit(kind),
-    }
-}
-
-// Is the size right (else 10)?
-fn right_size(kind: Kind, want: Want) -> bool
-    ensures { result ≡ sized (want_of want) (kind_of kind) }
-{
-    match want {
-        Want::Number => true,
-        Want::Looked => true,
-        Want::Lent => true,
-        Want::Owned => true,
-        Want::Credit(size) => has_size(kind, size),
-    }
-}
-
-// A slot's test: 0, or 8, 9 or 10 in this order. `barred`: it counts as used.
-pub(crate) fn test(kind: Kind, want: Want, barred: bool) -> u32
-    ensures { result ≡ test_of kind want barred }
-{
-    if suits(kind, want) {
-        if is_used(kind) {
-            return 9;
+impl Want {
+    // Is a slot of the kind what is asked for, used or not?
+    fn suits(self, kind: Kind) -> bool
+        ensures { result ≡ fits (want_of self) (kind_of kind) }
+    {
+        match self {
+            Want::Number => kind == Kind::Number,
+            Want::Looked => kind == Kind::Lent,
+            Want::Lent => matches!(kind, Kind::Lent | Kind::Owned | Kind::UsedOwned),
+            Want::Owned => matches!(kind, Kind::Owned | Kind::UsedOwned),
+            Want::Credit(_) => matches!(kind, Kind::Credit(_) | Kind::UsedCredit(_)),
         }
-        if barred {
-            return 9;
-        }
-        if right_size(kind, want) {
-            return 0;
-        }
-        return 10;
     }
-    8
-}
 
-// Does the slot become used?
-pub(crate) fn spends(want: Want) -> bool
-    ensures { result ≡ spends_of want }
-{
-    match want {
-        Want::Number => false,
-        Want::Looked => false,
-        Want::Lent => false,
-        Want::Owned => true,
-        Want::Credit(size) => true,
+    // Is a credit of the size that is asked for?
+    fn right_size(self, kind: Kind) -> bool
+        ensures { result ≡ sized (want_of self) (kind_of kind) }
+    {
+        match (self, kind) {
+            (Want::Credit(size), Kind::Credit(held) | Kind::UsedCredit(held)) => size == held,
+            _ => true,
+        }
+    }
+
+    // A slot's test, for its kind, its use and its size in this order. `barred`: it counts as used.
+    #[tactic(auto, unfolding(crate::specs::Slots::test_of, meaning::specs::Choice::pick))]
+    pub(crate) fn test(self, kind: Kind, barred: bool) -> Result<(), Fault>
+        ensures { fault_in result ≡ test_of kind self barred }
+    {
+        if !self.suits(kind) {
+            return Err(Fault::WrongKind);
+        }
+        if barred || matches!(kind, Kind::UsedOwned | Kind::UsedCredit(_)) {
+            return Err(Fault::Used);
+        }
+        if !self.right_size(kind) {
+            return Err(Fault::OtherSize);
+        }
+        Ok(())
+    }
+
+    // Does the slot become used?
+    pub(crate) fn spends(self) -> bool
+        ensures { result ≡ spends_of self }
+    {
+        matches!(self, Want::Owned | Want::Credit(_))
     }
 }
 
@@ -179,12 +145,9 @@ pub(crate) fn used(kind: Kind) -> Kind
     ensures { result ≡ used_kind kind }
 {
     match kind {
-        Kind::Number => Kind::Number,
-        Kind::Lent => Kind::Lent,
         Kind::Owned => Kind::UsedOwned,
         Kind::Credit(size) => Kind::UsedCredit(size),
-        Kind::UsedOwned => Kind::UsedOwned,
-        Kind::UsedCredit(size) => Kind::UsedCredit(size),
+        _ => kind,
     }
 }
 
@@ -192,60 +155,14 @@ pub(crate) fn used(kind: Kind) -> Kind
 pub(crate) fn current(kind: Kind, gone: bool) -> Kind
     ensures { result ≡ now_kind gone kind }
 {
-    if gone {
-        return used(kind);
-    }
-    kind
+    if gone { used(kind) } else { kind }
 }
 
 // Is it an owned tree or a credit that is not used?
 fn is_left(kind: Kind) -> bool
     ensures { result ≡ remains (record { kind = kind_of kind; used = used_in kind }) }
 {
-    match kind {
-        Kind::Number => false,
-        Kind::Lent => false,
-        Kind::Owned => true,
-        Kind::Credit(size) => true,
-        Kind::UsedOwned => false,
-        Kind::UsedCredit(size) => false,
-    }
-}
-
-// What a parameter's mode asks for: 0 a number, 1 a tree to lend, 2 an owned tree.
-pub(crate) fn want_of(mode: usize) -> Want
-    ensures { result ≡ want_at mode }
-{
-    if mode == 0 {
-        return Want::Number;
-    }
-    if mode == 1 {
-        return Want::Lent;
-    }
-    Want::Owned
-}
-
-// What a result's sort asks for where it is given back: 0 a number, 1 an owned tree.
-pub(crate) fn want_back(sort: usize) -> Want
-    ensures { result ≡ want_back sort }
-{
-    if sort == 0 {
-        return Want::Number;
-    }
-    Want::Owned
-}
-
-// The kind of slot that a mode binds: 0 a number, 1 lent, 2 owned.
-pub(crate) fn kind_of(mode: usize) -> Kind
-    ensures { result ≡ kind_at mode }
-{
-    if mode == 0 {
-        return Kind::Number;
-    }
-    if mode == 1 {
-        return Kind::Lent;
-    }
-    Kind::Owned
+    matches!(kind, Kind::Owned | Kind::Credit(_))
 }
 
 // Is an owned slot or a credit left among the bound ones, those of the set spent?
@@ -253,15 +170,12 @@ pub(crate) fn left_over(slots: [Slot; 32], bound: usize, spent: u32) -> bool
     requires { bound ≤ 32 }
     ensures { result ≡ leftover (slots_of bound (spent_by (bits_of 32 spent) slots)) }
 {
-    let mut i: usize = 0;
-    while i < bound {
+    for i in 0..bound {
         let slot = slots[i];
-        let was = slot.kind;
-        let kind = current(was, has(spent, i));
+        let kind = current(slot.kind, has(spent, i));
         if is_left(kind) {
             return true;
         }
-        i += 1;
     }
     false
 }

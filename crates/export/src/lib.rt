@@ -1,59 +1,47 @@
-// Checking and running for programs in other languages, with verdict and answer as words.
+// Verdict and answer as words, and checking and running with them for programs in other languages.
 #![tactic(auto)]
 
-ghost use Rattle.std.specs.Prelude.{◌≡◌};
-ghost use Rattle.meaning.specs.Answers.{verdict_of, run_of};
-ghost use Rattle.meaning.specs.Answers as answers;
-ghost use Rattle.export.specs.Words.{verdict_words, answer_words, Ran};
+ghost use Rattle.std.specs.Prelude.{◌≡◌, ◌≤◌, IfErr};
+ghost use Rattle.meaning.specs.Answers.{verdict_of, run_of, as_verdict, as_answer};
+ghost use Rattle.export.specs.Words.{verdict_words, answer_words};
+ghost use Rattle.export.specs.Words as words;
 
-use meaning::{Answer, End, Verdict};
+use meaning::{Ran, Refusal, Shape};
 
 // The words of a verdict.
-fn verdict_words(verdict: Verdict) -> [u32; 4]
-    ensures { result ≡ verdict_words verdict }
+fn verdict_words(verdict: Result<Shape, Refusal>) -> [u32; 4]
+    requires { IfErr verdict (λ r. r.place ≤ 4096) }
+    ensures { result ≡ verdict_words (as_verdict verdict) }
 {
     match verdict {
-        Verdict::Flat(depth, reached) => [0, depth, reached, 0],
-        Verdict::Stacked(reached) => [1, reached, 0, 0],
-        Verdict::Refused(number, place) => [2, number, place, 0],
+        Ok(Shape::Flat { depth, reached }) => [0, depth, reached, 0],
+        Ok(Shape::Stacked { reached }) => [1, reached, 0, 0],
+        Err(refusal) => [2, refusal.fault.number(), refusal.place as u32, 0],
     }
 }
 
-// The number in document 01's table for each end of a run.
-fn number(end: End) -> u32
-    ensures { result ≡ answers.number end }
+// The words of an answer: its number in the table, value, steps, place and frames.
+fn answer_words(answer: Result<Ran, Refusal>) -> [u32; 5]
+    requires { IfErr answer (λ r. r.place ≤ 4096) }
+    ensures { result ≡ answer_words (as_answer answer) }
 {
-    match end {
-        End::Done => 0,
-        End::Refused(n) => n,
-        End::NoBranch => 31,
-        End::BudgetSpent => 32,
-        End::NoFrame => 33,
-        End::OutOfRange => 34,
+    match answer {
+        Ok(ran) => [
+            ran.end.number(),
+            ran.end.value(),
+            ran.steps,
+            ran.place,
+            ran.frames,
+        ],
+        Err(refusal) => [refusal.fault.number(), 0, 0, refusal.place as u32, 0],
     }
-}
-
-// The words of an answer.
-fn answer_words(answer: Answer) -> [u32; 5]
-    ensures { result ≡ answer_words answer }
-{
-    let end = answer.end;
-    let number = number(end);
-    [
-        number,
-        answer.value,
-        answer.steps,
-        answer.place,
-        answer.frames,
-    ]
 }
 
 // Writes the words of a file's verdict.
 pub fn base_check(file: &[u8], out: &mut [u32; 4])
     ensures { out.new ≡ verdict_words (verdict_of file.now) }
 {
-    let verdict = checker::check(file);
-    *out = verdict_words(verdict);
+    *out = verdict_words(checker::check(file));
 }
 
 // Runs a file on arguments over a lent store, in a lent work area, within a budget of steps, and writes the words of the answer.
@@ -65,8 +53,7 @@ pub fn base_run(
     budget: u32,
     out: &mut [u32; 5],
 )
-    ensures { Ran (run_of file.now args.now store.old work.old budget) out.new store.new work.new }
+    ensures { words.Ran (run_of file.now args.now store.old work.old budget) out.new store.new work.new }
 {
-    let answer = machine::run(file, args, store, work, budget);
-    *out = answer_words(answer);
+    *out = answer_words(machine::run(file, args, store, work, budget));
 }

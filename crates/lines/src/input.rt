@@ -1,61 +1,89 @@
 // The input of the running program: four counts, then a file and words.
-ghost use Rattle.std.specs.Prelude.{◌≡◌, ◌++◌, ◌+◌, ◌*◌, ◌≤◌, length, drop};
-ghost use Rattle.meaning.specs.Lines.{word_in, words_in, well_formed, zeros};
+ghost use Rattle.std.specs.Prelude.{◌≡◌};
+ghost use Rattle.meaning.specs.Answers.{as_answer};
+ghost use Rattle.meaning.specs.Lines.{answer_of, decoded};
+ghost use Rattle.lines.specs.Requests.{parsed};
 
-// The 32-bit number at a place, high byte first.
-pub(crate) fn word_at(input: &[u8], at: usize) -> u32
-    requires { at + 4 ≤ length input.now }
-    ensures { result ≡ word_in input.now at }
-{
-    let high = (input[at] as u32) * 256 + (input[at + 1] as u32);
-    (high * 256 + (input[at + 2] as u32)) * 256 + (input[at + 3] as u32)
+use crate::word::{copy_words, word_at};
+use meaning::{Ran, Refusal};
+use std::marker::Model;
+
+// The bytes of the four counts.
+const COUNTS: usize = 16;
+
+// The most bytes of a file, one more than is accepted, so that the refusal 1 can show; the most arguments, and the most cells.
+const FILE: usize = 4097;
+
+const ARGUMENTS: usize = 9;
+
+const CELLS: usize = 1025;
+
+// The words of a cell, and of the work area.
+const CELL: usize = 5;
+
+const WORK: usize = 4096;
+
+// A run that an input asks for, with the bytes of the argument words and of the cells' words.
+#[derive(Drop)]
+pub(crate) struct Request<'a> {
+    file: &'a [u8],
+    arguments: &'a [u8],
+    cells: &'a [u8],
+    budget: u32,
 }
 
-// Whether the counts are within their limits and the input is as long as they say.
-pub(crate) fn well_formed(input: &[u8]) -> bool
-    ensures { result ≡ well_formed input.now }
-{
-    if input.len() < 16 {
-        return false;
-    }
-    let file = word_at(input, 0) as usize;
-    let arguments = word_at(input, 4) as usize;
-    let cells = word_at(input, 8) as usize;
-    if file > 4097 {
-        return false;
-    }
-    if arguments > 9 {
-        return false;
-    }
-    if cells > 1025 {
-        return false;
-    }
-    input.len() == 16 + file + 4 * arguments + 20 * cells
+impl<'a> Model for Request<'a> {
+    ghost use Rattle.std.specs.Prelude.{◌≤◌, ◌/◌, length};
+    ghost use Rattle.meaning.specs.Lines as asked;
+    ghost use Rattle.meaning.specs.Lines.{words_in};
+
+    ghost Value = { asked.Request };
+
+    ghost view = { λ r. record {
+      file = r.file.now;
+      args = words_in r.arguments.now 0 (length r.arguments.now / 4);
+      store = words_in r.cells.now 0 (length r.cells.now / 4);
+      budget = r.budget;
+    } };
+
+    ghost invariant = { λ r. (length r.arguments.now ≤ 36) × (length r.cells.now ≤ 20500) };
 }
 
-// Copies so many words from a place of the input to the first words that are lent.
-pub(crate) fn copy_words(input: &[u8], at: usize, words: &mut [u32], count: usize)
-    requires within_input { at + 4 * count ≤ length input.now }
-    requires room { count ≤ length words.old }
-    ensures { words.new ≡ words_in input.now at count ++ drop count words.old }
-{
-    let mut i = 0;
-    while i < count {
-        words[i] = word_at(input, at + 4 * i);
-        i += 1;
+impl<'a> Request<'a> {
+    // What an input asks for; nothing if a count is over its limit or the input is not as long as it says.
+    pub(crate) fn parse(input: &'a [u8]) -> Option<Request<'a>>
+        ensures { parsed result ≡ decoded input.now }
+    {
+        let (counts, rest) = input.split_at_checked(COUNTS)?;
+        let file = word_at(counts, 0) as usize;
+        let arguments = word_at(counts, 4) as usize;
+        let cells = word_at(counts, 8) as usize;
+        if file > FILE || arguments > ARGUMENTS || cells > CELLS {
+            return None;
+        }
+        if rest.len() != file + 4 * arguments + 4 * CELL * cells {
+            return None;
+        }
+        let (file, rest) = rest.split_at(file);
+        let (arguments, cells) = rest.split_at(4 * arguments);
+        Some(Request {
+            file,
+            arguments,
+            cells,
+            budget: word_at(counts, 12),
+        })
     }
-}
 
-// An empty store of 1,025 cells.
-pub(crate) fn empty_store() -> [u32; 5125]
-    ensures { result ≡ zeros 5125 }
-{
-    [0; 5125]
-}
-
-// The work area of the running program.
-pub(crate) fn empty_work() -> [u32; 4096]
-    ensures { result ≡ zeros 4096 }
-{
-    [0; 4096]
+    // The answer to the run, over a work area of zeros.
+    pub(crate) fn answer(&self) -> Result<Ran, Refusal>
+        ensures { as_answer result ≡ answer_of self.now }
+    {
+        let mut arguments = [0; ARGUMENTS];
+        let arguments = &mut arguments[..self.arguments.len() / 4];
+        copy_words(self.arguments, arguments);
+        let mut store = [0; CELL * CELLS];
+        let store = &mut store[..self.cells.len() / 4];
+        copy_words(self.cells, store);
+        machine::run(self.file, arguments, store, &mut [0; WORK], self.budget)
+    }
 }

@@ -1,104 +1,74 @@
-// Texts and numbers laid into a line's room, each behind the one before.
-ghost use Rattle.std.specs.Prelude.{◌≡◌, ◌++◌, ◌+◌, ◌≤◌, length};
-ghost use Rattle.meaning.specs.Answers as answers;
-ghost use Rattle.meaning.specs.Lines.{ascii, digits, verdict_line, answer_line, newline};
-ghost use Rattle.lines.specs.Writing.{Wrote, Line, field};
+// The texts of the lines: fields, each behind the one before.
+ghost use Rattle.std.specs.Prelude.{◌≡◌, [], ◌++◌, ◌+◌, ◌<◌, ◌≤◌, length};
+ghost use Rattle.meaning.specs.Answers.{as_shape, as_verdict, as_answer};
+ghost use Rattle.meaning.specs.Lines.{digits, verdict_line, answer_line, newline};
 
-use meaning::{Answer, End, Verdict};
+use crate::ROOM;
+use arrayvec::ArrayString;
+use meaning::{Ran, Refusal, Shape};
 
-// Lays a number's decimal digits from a place on, and answers the place behind them.
-fn put_number(out: &mut [u8], at: usize, n: u32) -> usize
-    requires { at + length (digits n) ≤ length out.old }
-    ensures { Wrote (digits n) out.old at out.new result }
+// Appends a field: what stands before it, and its decimal digits, at most ten of a word.
+fn push_field(line: &mut ArrayString<ROOM>, lead: &str, n: usize)
+    requires { length line.old.bytes + length lead.now + 20 ≤ 64 }
+    ensures bytes { line.new.bytes ≡ line.old.bytes ++ lead.now ++ digits n }
+    ensures bound { length line.new.bytes ≤ length line.old.bytes + length lead.now + 20 }
+    ensures word { n < 4294967296 → length line.new.bytes ≤ length line.old.bytes + length lead.now + 10 }
 {
-    if n < 10 {
-        out[at] = 48 + n as u8;
-        return at + 1;
-    }
-    let next = put_number(out, at, n / 10);
-    out[next] = 48 + (n % 10) as u8;
-    next + 1
+    let mut digits = itoa::Buffer::new();
+    line.push_str(lead);
+    line.push_str(digits.format(n));
 }
 
-// Lays a number's digits and a closing byte from a place on, and answers the place behind them.
-fn put_field(out: &mut [u8], at: usize, n: u32, closing: u8) -> usize
-    requires { at + 11 ≤ length out.old }
-    ensures wrote { Wrote (field n closing) out.old at out.new result }
-    ensures upper_bound { result ≤ at + 11 }
+// Appends the text of a shape to an empty line.
+fn push_shape(line: &mut ArrayString<ROOM>, shape: Shape)
+    requires { line.old.bytes ≡ [] }
+    ensures bytes { line.new.bytes ≡ verdict_line (as_shape shape) }
+    ensures bound { length line.new.bytes < 64 }
 {
-    let next = put_number(out, at, n);
-    out[next] = closing;
-    next + 1
-}
-
-// Lays a text from a place on, and answers the place behind it.
-fn put_text(out: &mut [u8], at: usize, text: &[u8]) -> usize
-    requires { at + length text.now ≤ length out.old }
-    ensures { Wrote text.now out.old at out.new result }
-{
-    let mut i = 0;
-    while i < text.len() {
-        out[at + i] = text[i];
-        i += 1;
-    }
-    at + i
-}
-
-// Writes the line of a verdict, and answers its length.
-pub(crate) fn verdict_line(v: Verdict, out: &mut [u8]) -> usize
-    requires { 64 ≤ length out.old }
-    ensures { Line (verdict_line v ++ newline) out.old out.new result }
-{
-    match v {
-        Verdict::Flat(depth, reached) => {
-            let at = put_text(out, 0, b"accepted flat ");
-            let at = put_field(out, at, depth, b' ');
-            put_field(out, at, reached, b'\n')
+    match shape {
+        Shape::Flat { depth, reached } => {
+            push_field(line, "accepted flat ", depth as usize);
+            push_field(line, " ", reached as usize);
         }
-        Verdict::Stacked(reached) => {
-            let at = put_text(out, 0, b"accepted stacked ");
-            put_field(out, at, reached, b'\n')
-        }
-        Verdict::Refused(number, place) => {
-            let at = put_text(out, 0, b"refused ");
-            let at = put_field(out, at, number, b' ');
-            let at = put_text(out, at, b"at ");
-            put_field(out, at, place, b'\n')
+        Shape::Stacked { reached } => push_field(line, "accepted stacked ", reached as usize),
+    }
+}
+
+// The line of a verdict.
+pub(crate) fn verdict_line(verdict: Result<Shape, Refusal>) -> ArrayString<ROOM>
+    ensures { result.bytes ≡ verdict_line (as_verdict verdict) ++ newline }
+{
+    let mut line = ArrayString::new();
+    match verdict {
+        Ok(shape) => push_shape(&mut line, shape),
+        Err(refusal) => {
+            push_field(&mut line, "refused ", refusal.fault.number() as usize);
+            push_field(&mut line, " at ", refusal.place);
         }
     }
+    line.push_str("\n");
+    line
 }
 
-// The number in document 01's table for each end of a run.
-fn number(end: End) -> u32
-    ensures { result ≡ answers.number end }
+// The line of an answer.
+pub(crate) fn answer_line(answer: Result<Ran, Refusal>) -> ArrayString<ROOM>
+    ensures { result.bytes ≡ answer_line (as_answer answer) ++ newline }
 {
-    match end {
-        End::Done => 0,
-        End::Refused(n) => n,
-        End::NoBranch => 31,
-        End::BudgetSpent => 32,
-        End::NoFrame => 33,
-        End::OutOfRange => 34,
+    let mut line = ArrayString::new();
+    match answer {
+        Ok(ran) => {
+            push_field(&mut line, "", ran.end.number() as usize);
+            push_field(&mut line, " ", ran.end.value() as usize);
+            push_field(&mut line, " ", ran.steps as usize);
+            push_field(&mut line, " ", ran.place as usize);
+            push_field(&mut line, " ", ran.frames as usize);
+        }
+        Err(refusal) => {
+            push_field(&mut line, "", refusal.fault.number() as usize);
+            push_field(&mut line, " 0 0 ", refusal.place);
+            push_field(&mut line, " ", 0);
+        }
     }
-}
-
-// Writes the line of an answer, and answers its length.
-pub(crate) fn answer_line(answer: Answer, out: &mut [u8]) -> usize
-    requires { 64 ≤ length out.old }
-    ensures { Line (answer_line answer ++ newline) out.old out.new result }
-{
-    let end = answer.end;
-    let at = put_field(out, 0, number(end), b' ');
-    let at = put_field(out, at, answer.value, b' ');
-    let at = put_field(out, at, answer.steps, b' ');
-    let at = put_field(out, at, answer.place, b' ');
-    put_field(out, at, answer.frames, b'\n')
-}
-
-// Writes the line of an input that asks for no run, and answers its length.
-pub(crate) fn bad_input(out: &mut [u8]) -> usize
-    requires { 64 ≤ length out.old }
-    ensures { Line (ascii "bad input" ++ newline) out.old out.new result }
-{
-    put_text(out, 0, b"bad input\n")
+    line.push_str("\n");
+    line
 }

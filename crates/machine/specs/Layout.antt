@@ -1,29 +1,51 @@
--- What each node does to the words: the state of numbers with the work area, and the store. Assumes nothing.
+-- What each node does to the words: the state in numbers with the work area, and the store. Assumes nothing.
 -- The work area: the slots of frame d at 32 * d; where frame d goes on, and its count of slots, at 1024 + 2 * d.
-use Rattle.std.specs.Prelude.{ℕ, zero, suc, ◌+◌, ◌-◌, ◌*◌, ◌<◌, ◌≤◌, max, ◌⊎◌, List, [], ◌∷◌, length, ◌==◌, nat_le, nat_lt, slice_index, slice_set}
+use Rattle.std.specs.Prelude.{ℕ, zero, suc, ◌+◌, ◌-◌, ◌*◌, ◌<◌, ◌≤◌, max, ◌⊎◌, List, [], ◌∷◌, length, ◌==◌, nat_le, nat_lt, slice_index, slice_set, Some, None}
 use Rattle.std.proofs.Math.Option.{none, some}
+use Rattle.std.specs.declared.option.Option.{Option}
+use Rattle.machine.specs.declared.frame.Frame.{Frame}
 use Rattle.machine.specs.declared.frame.State.{State}
+use Rattle.meaning.specs.declared.RunEnd.{RunEnd}
+use Rattle.meaning.specs.Answers as answers
 use Rattle.meaning.specs.Choice.{pick}
 use Rattle.meaning.specs.Plain.{arithmetic}
 use Rattle.standing.specs.Bytes.{byte_at, arity_in, params_in, body_in}
 
+-- a state in numbers: 99 while the run goes on, or the answer's number with its value
+pub record Numbers : Type 0 where
+  pub frame : Frame
+  pub most : ℕ
+  pub number : ℕ
+  pub value : ℕ
+
 -- the state with the work area
 pub record Top : Type 0 where
-  pub state : State
+  pub state : Numbers
   pub work : List ℕ
 
-abbrev pub top : State → List ℕ → Top
+abbrev pub top : Numbers → List ℕ → Top
 top s w = record { state = s; work = w }
 
--- a state that goes on has the number 99
-abbrev pub going : (at depth bound most : ℕ) → State
+abbrev pub going : (at depth bound most : ℕ) → Numbers
 going at depth bound most = record { frame = record { at = at; depth = depth; bound = bound }; most = most; number = 99; value = 0 }
 
-abbrev pub moved : State → ℕ → State
+abbrev pub moved : Numbers → ℕ → Numbers
 moved s at = going at s.frame.depth s.frame.bound s.most
 
-abbrev pub ended : State → (number value : ℕ) → State
+abbrev pub ended : Numbers → (number value : ℕ) → Numbers
 ended s number value = record { frame = record { at = s.frame.at; depth = s.frame.depth; bound = s.frame.bound }; most = s.most; number = number; value = value }
+
+-- the code's state, which goes on
+abbrev pub on : State → Numbers
+on s = going s.frame.at s.frame.depth s.frame.bound s.most
+
+abbrev pub at_work : State → List ℕ → Top
+at_work s w = top (on s) w
+
+-- what a node comes to: the state after it, or this end of the run in the state before it
+abbrev pub goes : RunEnd → State → Option State → List ℕ → Top
+goes e s (Some s') w = at_work s' w
+goes e s None w = top (ended (on s) (answers.number (answers.as_end e)) (answers.value_of e)) w
 
 -- the word of the slot that a byte names
 abbrev pub slot_in : List ℕ → List ℕ → (base at : ℕ) → ℕ

@@ -1,5 +1,6 @@
 pub mod StartWords
 pub mod StartArea
+pub mod StartWalk
 pub mod Layout
 pub mod Skips
 pub mod Needs

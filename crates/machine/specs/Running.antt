@@ -1,14 +1,11 @@
 -- What `run` is made of: the sizes, and a start that is to be tested. Assumes nothing.
 use Rattle.std.specs.Prelude.{◌≡◌, ℕ, ◌%◌, ◌≤◌, Bool, true, List, length, ◌==◌, nat_lt}
 use Rattle.meaning.specs.Choice.{pick}
-use Rattle.meaning.specs.declared.Answer.{Answer}
 use Rattle.meaning.specs.Syntax.{File}
 use Rattle.meaning.specs.Outcome.{ok}
 use Rattle.meaning.specs.Verdict.{accepted}
-use Rattle.meaning.specs.Answers.{end_of}
 use Rattle.standing.specs.Bytes.{params_in}
 use Rattle.standing.specs.Table.{Declared}
-use Rattle.machine.specs.declared.step.Ran.{Ran}
 
 -- 20: "store not a multiple of 5 words or over 5,120, or work area under 4,096 words"
 unfoldable pub unfit_of : (store work : ℕ) → Bool
@@ -23,7 +20,3 @@ pub record Opened (bytes decl args store work : List ℕ) : Type 0 where
   pub few : length store ≤ 5120
   pub room : 4096 ≤ length work
   pub many : length args ≡ params_in decl 0
-
--- the answer of the steps made
-abbrev pub stepped_by : Ran → Answer
-stepped_by r = record { end = end_of r.number; value = r.value; steps = r.steps; place = r.place; frames = r.frames }

@@ -1,7 +1,8 @@
 -- The walks of the start check in the work area: from `base` on a count for each cell, and from `base + 1024` on the queue. Assumes nothing.
-use Rattle.std.specs.Prelude.{◌≡◌, ℕ, zero, suc, ◌+◌, ◌-◌, ◌*◌, ◌/◌, ◌%◌, ◌≤◌, Bool, true, false, List, length, ◌==◌, ◌≢◌, nat_le, nat_lt, slice_index, slice_set}
+use Rattle.std.specs.Prelude.{◌≡◌, ℕ, zero, suc, ◌+◌, ◌-◌, ◌*◌, ◌/◌, ◌%◌, ◌≤◌, Bool, true, false, List, length, ◌==◌, nat_le, nat_lt, slice_index, slice_set, Result, Ok, Err}
 use Rattle.meaning.specs.Choice.{pick}
-use Rattle.meaning.specs.Answers.{wiped}
+use Rattle.meaning.specs.declared.Fault.{Fault}
+use Rattle.meaning.specs.Answers.{fault_number}
 use Rattle.meaning.specs.Outcome.{Outcome, ok, refuse}
 use Rattle.meaning.specs.Syntax.{File}
 use Rattle.meaning.specs.Start.{start}
@@ -27,9 +28,12 @@ bump_to base goal a c =
     (area (slice_set (slice_set a.work (base + c) (counted base a.work c)) (base + 1024 + a.tail) c) (a.tail + 1)))
     (area (slice_set a.work (base + c) (counted base a.work c)) a.tail)
 
--- queued the first time in the first walk, the last time in the second
-unfoldable pub bump : ℕ → Area → ℕ → Area
-bump base a c = pick (base == 0) (bump_to base 1 a c) (bump_to base (slice_index a.work c) a c)
+-- the naming that queues a cell: the first in the first walk, the last in the second
+unfoldable pub goal_of : (base : ℕ) → List ℕ → ℕ → ℕ
+goal_of base w c = pick (base == 0) 1 (slice_index w c)
+
+abbrev pub bump : ℕ → Area → ℕ → Area
+bump base a c = bump_to base (goal_of base a.work c) a c
 
 -- n words zero, from `base` on
 unfoldable pub cleared : (base n : ℕ) → List ℕ → List ℕ
@@ -41,8 +45,15 @@ used_once work c = pick (nat_le 1024 c) false (nat_le (slice_index work c) 1)
 
 -- the answer by the tests: of number arguments, of what owned and what lent arguments reach, of namings of the cells that owned arguments
 -- reach, of namings of all; and by whether cells are held back
-unfoldable pub judged : (numbers owned lent single all held : Bool) → ℕ
-judged numbers owned lent single all held = pick numbers (pick owned (pick lent (pick single (pick all 0 (pick held 24 0)) 23) 22) 22) 22
+unfoldable pub judged : (numbers owned lent single all held : Bool) → Result (Unit {0}) Fault
+judged numbers owned lent single all held =
+    pick numbers
+    (pick owned
+    (pick lent
+    (pick single (pick all (Ok tt) (pick held (Err Fault.ReachesItself) (Ok tt))) (Err Fault.NamedTwice))
+    (Err Fault.Malformed))
+    (Err Fault.Malformed))
+    (Err Fault.Malformed)
 
 module _ (codes store : List ℕ) where
   unfoldable pub name_at : ℕ → Area → ℕ → Area
@@ -59,7 +70,7 @@ module _ (codes store : List ℕ) where
   unfoldable pub expand_at : ℕ → Area → ℕ → Area
   expand_at base a c =
       pick (nat_lt (length store) (5 * c + 5)) a
-      (pick (nat_le 64 (slice_index store (5 * c))) a
+      (pick (nat_le (length codes) (slice_index store (5 * c))) a
       (fields_at base 4 (code_at codes store c % 16) (5 * c + 1) a))
 
   unfoldable pub drain_at : (base fuel head : ℕ) → Area → Area
@@ -87,28 +98,36 @@ module _ (bytes table codes store : List ℕ) where
     abbrev pub args_fine : ℕ → Bool
     args_fine mode = all_from (λ i. tree_arg bytes table codes store args mode i) (length args) 0
 
-    -- the cells reached from owned arguments; those reached from any, behind them; those that no cycle holds back; and whether words that
-    -- are not malformed are all that is met
-    abbrev pub owned_begun : List ℕ → Area
-    owned_begun work = args_at 0 args 2 (length args) 0 (area (cleared 0 (length store / 5) work) 0)
+    -- the arguments of a mode named; the cells that these reach, queued behind the others; and whether words that are not malformed are all
+    -- that is met
+    abbrev pub begun : (base mode : ℕ) → Area → Area
+    begun base mode a = args_at base args mode (length args) 0 a
 
-    unfoldable pub owned_area : List ℕ → Area
-    owned_area work = drain_at codes store 0 1024 0 (owned_begun work)
+    unfoldable pub reached : (base mode : ℕ) → Area → Area
+    reached base mode a = drain_at codes store base 1024 a.tail (begun base mode a)
 
-    unfoldable pub owned_fine : List ℕ → Bool
-    owned_fine work = pick (args_fine 2) (drain_fine codes store 0 1024 0 (owned_begun work)) false
+    unfoldable pub reached_fine : (base mode : ℕ) → Area → Bool
+    reached_fine base mode a = pick (args_fine mode) (drain_fine codes store base 1024 a.tail (begun base mode a)) false
 
-    abbrev pub all_begun : Area → Area
-    all_begun a = args_at 0 args 1 (length args) 0 a
+    -- an area in which a walk begins
+    abbrev pub fresh : ℕ → List ℕ → Area
+    fresh base work = area (cleared base (length store / 5) work) 0
 
-    unfoldable pub all_area : Area → Area
-    all_area a = drain_at codes store 0 1024 a.tail (all_begun a)
+    -- the cells reached from owned arguments; those reached from any, behind them; those that no cycle holds back
+    abbrev pub owned_area : List ℕ → Area
+    owned_area work = reached 0 2 (fresh 0 work)
 
-    unfoldable pub all_fine : Area → Bool
-    all_fine a = pick (args_fine 1) (drain_fine codes store 0 1024 a.tail (all_begun a)) false
+    abbrev pub owned_fine : List ℕ → Bool
+    owned_fine work = reached_fine 0 2 (fresh 0 work)
+
+    abbrev pub all_area : Area → Area
+    all_area a = reached 0 1 a
+
+    abbrev pub all_fine : Area → Bool
+    all_fine a = reached_fine 0 1 a
 
     abbrev pub free_begun : List ℕ → Area
-    free_begun work = args_at 2048 args 1 (length args) 0 (args_at 2048 args 2 (length args) 0 (area (cleared 2048 (length store / 5) work) 0))
+    free_begun work = begun 2048 1 (begun 2048 2 (fresh 2048 work))
 
     unfoldable pub free_area : List ℕ → Area
     free_area work = drain_at codes store 2048 1024 0 (free_begun work)
@@ -117,7 +136,7 @@ module _ (bytes table codes store : List ℕ) where
     free_fine work = pick (args_fine 2) (pick (args_fine 1) (drain_fine codes store 2048 1024 0 (free_begun work)) false) false
 
     -- the tests on the areas after the three walks
-    unfoldable pub answer_at : (work : List ℕ) (o a f : Area) → ℕ
+    unfoldable pub answer_at : (work : List ℕ) (o a f : Area) → Result (Unit {0}) Fault
     answer_at work o a f =
         judged (all_from (λ i. number_arg (mode_at bytes table i) (slice_index args i)) (length args) 0)
         (owned_fine work)
@@ -127,19 +146,13 @@ module _ (bytes table codes store : List ℕ) where
         (nat_lt f.tail a.tail)
 
     -- what the code answers
-    unfoldable pub start_at : List ℕ → ℕ
+    unfoldable pub start_at : List ℕ → Result (Unit {0}) Fault
     start_at work = answer_at work (owned_area work) (all_area (owned_area work)) (free_area (all_area (owned_area work)).work)
 
--- A part of a walk: 4,096 comes back where a word was malformed, and else the tail of the area as it is then; behind the first 4,096 words
--- nothing is changed
-pub record Went (before after : List ℕ) (r : ℕ) (fine : Bool) (a : Area) : Type 0 where
-  pub same : wiped 4096 after ≡ wiped 4096 before
-  pub out : r ≡ 4096 → fine ≡ false
-  pub on : (r ≢ 4096) → (fine ≡ true) × (area after r ≡ a) × (r ≤ 1024)
-
 -- an answer as the meaning has it
-unfoldable pub outcome : ℕ → Outcome (Unit {0})
-outcome n = pick (n == 0) (ok tt) (refuse n 0)
+abbrev pub outcome : Result (Unit {0}) Fault → Outcome (Unit {0})
+outcome (Ok u) = ok tt
+outcome (Err f) = refuse (fault_number f) 0
 
 -- what is known where 1 to 21 do not apply: a file that its table tells of, and sizes that fit
 pub record Passed (bytes table args store work : List ℕ) : Type 0 where
@@ -151,5 +164,5 @@ pub record Passed (bytes table args store work : List ℕ) : Type 0 where
   pub declared : Declared tree bytes table
 
 -- an answer is the meaning's, whatever file the table tells of
-abbrev pub Meant : (bytes table args store work : List ℕ) → ℕ → Type 0
+abbrev pub Meant : (bytes table args store work : List ℕ) → Result (Unit {0}) Fault → Type 0
 Meant bytes table args store work r = (tree : File) → Declared tree bytes table → outcome r ≡ start tree (length work) args store

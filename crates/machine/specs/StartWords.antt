@@ -1,8 +1,9 @@
 -- The words of a store, by the codes of a file's constructors, and a run's arguments, by the file's bytes and the table of its declarations. Assumes nothing.
-use Rattle.std.specs.Prelude.{◌≡◌, ℕ, zero, suc, ◌+◌, ◌-◌, ◌*◌, ◌/◌, ◌%◌, ◌<◌, Bool, true, false, List, [], ◌∷◌, length, ◌==◌, nat_le, nat_lt, slice_index, slice_index_or}
+use Rattle.std.specs.Prelude.{◌≡◌, ℕ, zero, suc, ◌+◌, ◌-◌, ◌*◌, ◌/◌, ◌%◌, Bool, true, false, List, [], ◌∷◌, map, length, ◌==◌, nat_le, nat_lt, slice_index}
 use Rattle.meaning.specs.Choice.{pick}
 use Rattle.meaning.specs.Syntax.{Sort, Constructor, File}
 use Rattle.standing.specs.Bytes.{byte_at}
+use Rattle.machine.specs.declared.start.Mode.{Mode}
 
 -- a constructor's code: bit i where its field i is a tree, bit 4 + i where it is a number
 unfoldable pub code_of : Constructor → ℕ
@@ -10,12 +11,9 @@ code_of [] = 0
 code_of (Sort.number ∷ ss) = 16 + 2 * code_of ss
 code_of (Sort.tree ∷ ss) = 1 + 2 * code_of ss
 
--- by its number; 256 where no constructor has it
-unfoldable pub code_in : List Constructor → ℕ → ℕ
-code_in cs k = pick (nat_lt k (length cs)) (code_of (slice_index_or cs k [])) 256
-
+-- the codes of a file's constructors, by their number
 abbrev pub Coded : File → List ℕ → Type 0
-Coded file codes = (k : ℕ) → k < 64 → slice_index codes k ≡ code_in file.constructors k
+Coded file codes = codes ≡ map code_of file.constructors
 
 -- the same by a constructor's word in the table: its field i, and n fields from i on
 unfoldable pub bit_at : (bytes : List ℕ) (kind i : ℕ) → ℕ
@@ -40,15 +38,13 @@ code_at codes store c = slice_index codes (slice_index store (5 * c))
 unfoldable pub cell_fine : (codes store : List ℕ) → ℕ → Bool
 cell_fine codes store c =
     pick (nat_lt (length store) (5 * c + 5)) false
-    (pick (nat_le 64 (slice_index store (5 * c))) false
-    (pick (code_at codes store c == 0) false
-    (pick (nat_le 256 (code_at codes store c)) false
-    (numbers_fine store 4 (code_at codes store c / 16) (5 * c + 1)))))
+    (pick (nat_le (length codes) (slice_index store (5 * c))) false
+    (pick (code_at codes store c == 0) false (numbers_fine store 4 (code_at codes store c / 16) (5 * c + 1))))
 
 -- a tree word that is not malformed
 unfoldable pub word_fine : (codes store : List ℕ) → ℕ → Bool
 word_fine codes store w =
-    pick (nat_le 65536 w) (cell_fine codes store (w - 65536)) (pick (nat_le 64 w) false (slice_index codes w == 0))
+    pick (nat_le 65536 w) (cell_fine codes store (w - 65536)) (pick (nat_le (length codes) w) false (slice_index codes w == 0))
 
 -- a word whose bit is not set, or one that is not malformed; n words from p on; every word in the tree fields of a cell
 unfoldable pub field_fine : (codes store : List ℕ) (bits w : ℕ) → Bool
@@ -61,10 +57,16 @@ trees_fine codes store (suc n) bits p = pick (field_fine codes store bits (slice
 unfoldable pub inside_fine : (codes store : List ℕ) → ℕ → Bool
 inside_fine codes store c =
     pick (nat_lt (length store) (5 * c + 5)) true
-    (pick (nat_le 64 (slice_index store (5 * c))) true
+    (pick (nat_le (length codes) (slice_index store (5 * c))) true
     (trees_fine codes store 4 (code_at codes store c % 16) (5 * c + 1)))
 
--- how the first function takes its argument i: 0 number, 1 lent, 2 owned
+-- the byte of a mode
+abbrev pub mode_byte : Mode → ℕ
+mode_byte Mode.Number = 0
+mode_byte Mode.Lent = 1
+mode_byte Mode.Owned = 2
+
+-- the byte that says how the first function takes its argument i
 abbrev pub mode_at : (bytes table : List ℕ) → ℕ → ℕ
 mode_at bytes table i = byte_at bytes (slice_index table 64 / 256 + i)
 

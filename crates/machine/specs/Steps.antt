@@ -1,9 +1,12 @@
 -- What a step does, by the mark that it stands at. Assumes nothing.
-use Rattle.std.specs.Prelude.{◌≡◌, ℕ, ◌+◌, ◌*◌, List, ◌==◌, ◌≢◌}
+use Rattle.std.specs.Prelude.{◌≡◌, ℕ, ◌+◌, ◌*◌, Bool, true, false, List, ◌==◌, ◌≢◌, Some, None}
+use Rattle.std.specs.declared.option.Option.{Option}
 use Rattle.meaning.specs.Machine.{Answer, answers}
+use Rattle.meaning.specs.Answers.{number, as_end, value_of}
+use Rattle.meaning.specs.declared.RunEnd.{RunEnd}
+use Rattle.meaning.specs.declared.Ran.{Ran}
 use Rattle.machine.specs.declared.frame.State.{State}
-use Rattle.machine.specs.declared.step.Ran.{Ran}
-use Rattle.machine.specs.Layout.{Top, top, moved, slot_in, nu_of, at_of, ar_of, gv_of, tl_of, cl_of, mk_store, mk_of, con_of, op_of}
+use Rattle.machine.specs.Layout.{Numbers, Top, top, at_work, goes, moved, slot_in, nu_of, at_of, ar_of, gv_of, tl_of, cl_of, mk_store, mk_of, con_of, op_of}
 use Rattle.machine.specs.Skips.{Skips, Found, Keeps}
 use Rattle.standing.specs.Bytes.{byte_at, mark_at}
 use Rattle.meaning.specs.Choice.{pick}
@@ -52,10 +55,37 @@ StepsAt Mark.Other bytes decl store c store' c' = (store' ≡ store) × (c' ≡ 
 pub record Steps (bytes decl store : List ℕ) (c : Top) (store' : List ℕ) (c' : Top) : Type 0 where
   pub does : StepsAt (mark_of (mark_at bytes c.state.frame.at)) bytes decl store c store' c'
 
--- a step made, or the node left as it was
-pub record Tried (bytes decl store : List ℕ) (c : Top) (store' : List ℕ) (c' : Top) : Type 0 where
-  pub does : c'.state.number ≡ 99 → Steps bytes decl store c store' c'
-  pub stays : (c'.state.number ≢ 99) → (store' ≡ store) × (c'.work ≡ c.work)
+-- how the run ends at a node that ends it
+abbrev pub ending_at : Mark → List ℕ → Top → RunEnd
+ending_at Mark.GV bytes c = RunEnd.Done (named bytes c)
+ending_at Mark.CL bytes c = RunEnd.NoFrame
+ending_at Mark.AR bytes c = RunEnd.OutOfRange
+ending_at Mark.OP bytes c = RunEnd.NoBranch
+ending_at Mark.LK bytes c = RunEnd.NoBranch
+ending_at Mark.AT bytes c = RunEnd.NoBranch
+ending_at Mark.MK bytes c = RunEnd.NoBranch
+ending_at Mark.TL bytes c = RunEnd.NoBranch
+ending_at Mark.NU bytes c = RunEnd.NoBranch
+ending_at Mark.IF bytes c = RunEnd.NoBranch
+ending_at Mark.CN bytes c = RunEnd.NoBranch
+ending_at Mark.FN bytes c = RunEnd.NoBranch
+ending_at Mark.BD bytes c = RunEnd.NoBranch
+ending_at Mark.ND bytes c = RunEnd.NoBranch
+ending_at Mark.BR bytes c = RunEnd.NoBranch
+ending_at Mark.Other bytes c = RunEnd.NoBranch
+
+unfoldable pub ending : List ℕ → Top → RunEnd
+ending bytes c = ending_at (mark_of (mark_at bytes c.state.frame.at)) bytes c
+
+-- what a node comes to: P of the state after it; or no state, which is P of this end of the run where the ends of terms are worked out, and else
+-- the words as they were
+abbrev pub Comes : (work_out : Bool) (end : RunEnd) (P : Top → Type 0) (Same : Type 0) (s : State) → Option State → (work : List ℕ) → Type 0
+Comes out e P Same s (Some s') work = P (at_work s' work)
+Comes out e P Same s None work = (out ≡ true → P (goes e s None work)) × (out ≡ false → Same)
+
+abbrev pub Stepped : (work_out : Bool) (bytes decl store : List ℕ) (s : State) (work : List ℕ) → Option State → (store' work' : List ℕ) → Type 0
+Stepped out bytes decl store s work r store' work' =
+    Comes out (ending bytes (at_work s work')) (Steps bytes decl store (at_work s work) store') ((store' ≡ store) × (work' ≡ work)) s r work'
 
 -- the marks of the nodes
 pub data Node : ℕ → Type 0 where
@@ -76,13 +106,9 @@ by_distance d =
     pick (d == 1) 9 (pick (d == 7) 12 (pick (d == 9) 7 (pick (d == 15) 4 (pick (d == 17) 13
     (pick (d == 19) 5 (pick (d == 24) 8 (pick (d == 29) 14 (pick (d == 30) 6 (pick (d == 31) 10 15)))))))))
 
--- the credits that a mark's branches bind: one for OP
-unfoldable pub credit_of : (mark : ℕ) → ℕ
-credit_of m = pick (m == 9) 1 0
-
 -- the place of an answer, and the defined answer
-unfoldable pub place_of : State → ℕ
+unfoldable pub place_of : Numbers → ℕ
 place_of s = pick (s.number == 0) 0 s.frame.at
 
 abbrev pub answer_of : Ran → List ℕ → Answer
-answer_of r store = answers r.number r.value r.steps r.place r.frames store
+answer_of r store = answers (number (as_end r.end)) (value_of r.end) r.steps r.place r.frames store

@@ -1,7 +1,7 @@
 // A frame of the machine, the cells of the lent store, the layout of the lent work area, the state of a run, and a frame's slots in the work area.
 ghost use Rattle.std.specs.Prelude.{◌≡◌, ◌+◌, ◌/◌, ◌<◌, ◌≤◌, true, length, replicate};
 ghost use Rattle.standing.specs.Bytes.{byte_at};
-ghost use Rattle.machine.specs.Layout.{slot_in, top, moved, ended, bound, laid, gathered, words, Rising, Apart};
+ghost use Rattle.machine.specs.Layout.{slot_in, on, at_work, moved, bound, laid, gathered, words, Rising, Apart};
 
 // The top frame: the place of its term, the frames below it, and its slots that are bound.
 #[derive(Clone, Copy)]
@@ -36,11 +36,11 @@ impl Frame {
         requires { (length args.now ≤ 32) × (32 ≤ length work.old) }
         ensures { (result.at ≡ at) × (result.depth ≡ 0) × (result.bound ≡ length args.now) × (work.new ≡ laid work.old 0 args.now) }
     {
-        let n = args.len();
-        load(args, work, 0, Work::SLOTS, n);
-        let mut first = Frame::empty(at);
-        first.bound = n;
-        first
+        work[..args.len()].copy_from_slice(args);
+        Frame {
+            bound: args.len(),
+            ..Frame::empty(at)
+        }
     }
 }
 
@@ -97,32 +97,20 @@ impl Work {
     pub const PLACE: usize = 8192;
 }
 
-// A run's state: the top frame, the greatest number of frames so far, the answer's number (99 while it goes on) and its value.
+// The state of a run that goes on: the top frame, and the greatest number of frames so far.
 #[derive(Clone, Copy)]
 pub struct State {
     pub frame: Frame,
     pub most: usize,
-    pub number: u32,
-    pub value: u32,
-}
-
-impl State {
-    pub const GOING: u32 = 99;
 }
 
 // The byte at a place.
+// Not standing's byte_at, which tests its bound: with it a step took three to five times as long.
 pub(crate) fn byte(file: &[u8], at: usize) -> usize
     requires { at < length file.now }
     ensures { (result ≡ byte_at file.now at) × (result < 256) }
 {
-    file[at] as usize
-}
-
-// A word as a place.
-pub(crate) fn wide(x: u32) -> usize
-    ensures { result ≡ x }
-{
-    x as usize
+    usize::from(file[at])
 }
 
 // The word of the slot that a byte names.
@@ -136,52 +124,27 @@ pub(crate) fn slot(file: &[u8], work: &[u32], base: usize, at: usize) -> u32
 
 // The state at another term, with the same slots.
 pub(crate) fn go_to(s: State, at: usize) -> State
-    ensures { result ≡ moved s at }
+    ensures { on result ≡ moved (on s) at }
 {
     State {
-        frame: Frame {
-            at,
-            depth: s.frame.depth,
-            bound: s.frame.bound,
-        },
-        most: s.most,
-        number: State::GOING,
-        value: 0,
-    }
-}
-
-// The state at the end of a run.
-pub(crate) fn finish(s: State, number: u32, value: u32) -> State
-    ensures { result ≡ ended s number value }
-{
-    State {
-        frame: Frame {
-            at: s.frame.at,
-            depth: s.frame.depth,
-            bound: s.frame.bound,
-        },
-        most: s.most,
-        number,
-        value,
+        frame: Frame { at, ..s.frame },
+        ..s
     }
 }
 
 // A word bound to the next slot, and the term that follows.
 pub(crate) fn bind(work: &mut [u32], s: State, v: u32, next: usize) -> State
     requires { (s.frame.depth ≤ 31) × (s.frame.bound < 32) × (1024 ≤ length work.old) }
-    ensures { top result work.new ≡ bound (top s work.old) v next }
+    ensures { at_work result work.new ≡ bound (at_work s work.old) v next }
 {
-    let p = s.frame.depth * Frame::SLOTS + s.frame.bound;
-    work[p] = v;
+    work[s.frame.depth * Frame::SLOTS + s.frame.bound] = v;
     State {
         frame: Frame {
             at: next,
-            depth: s.frame.depth,
             bound: s.frame.bound + 1,
+            ..s.frame
         },
-        most: s.most,
-        number: State::GOING,
-        value: 0,
+        ..s
     }
 }
 
@@ -191,24 +154,10 @@ pub(crate) fn gather(file: &[u8], work: &[u32], base: usize, at: usize, n: usize
     ensures { result ≡ laid (replicate 8 0) 0 (gathered file.now work.now base at n) }
 {
     let mut out = [0u32; 8];
-    let mut j: usize = 0;
-    while j < n {
+    for j in 0..n {
         out[j] = slot(file, work, base, at + j);
-        j += 1;
     }
     out
-}
-
-// The first n words of an array, laid in the work area.
-pub(crate) fn lay(work: &mut [u32], to: usize, values: [u32; 8], n: usize)
-    requires { (to + n ≤ length work.old) × (n ≤ 8) }
-    ensures { work.new ≡ laid work.old to (words values 0 n) }
-{
-    let mut j: usize = 0;
-    while j < n {
-        work[to + j] = values[j];
-        j += 1;
-    }
 }
 
 // The words of n slots, laid one by one; none is laid over before it is read.
@@ -216,11 +165,9 @@ pub(crate) fn hand_over(file: &[u8], work: &mut [u32], base: usize, at: usize, t
     requires { (at + n ≤ length file.now) × (base + 256 ≤ length work.old) × (to + n ≤ length work.old) × Apart file.now base at to n }
     ensures { work.new ≡ laid work.old to (gathered file.now work.old base at n) }
 {
-    let mut j: usize = 0;
-    while j < n {
+    for j in 0..n {
         let v = slot(file, work, base, at + j);
         work[to + j] = v;
-        j += 1;
     }
 }
 
@@ -229,12 +176,10 @@ pub(crate) fn rising(file: &[u8], at: usize, n: usize) -> bool
     requires { at + n ≤ length file.now }
     ensures { result ≡ true → Rising file.now at n }
 {
-    let mut j: usize = 1;
-    while j < n {
+    for j in 1..n {
         if byte(file, at + j) < j {
             return false;
         }
-        j += 1;
     }
     true
 }
@@ -257,7 +202,7 @@ pub(crate) fn pass_on(file: &[u8], work: &mut [u32], base: usize, at: usize, n: 
         return;
     }
     let values = gather(file, work, base, at, n);
-    lay(work, base, values, n);
+    work[base..base + n].copy_from_slice(&values[..n]);
 }
 
 // The words of a slice from a place on, laid in the work area; two, the commonest, without a loop.
@@ -270,10 +215,8 @@ pub(crate) fn load(from: &[u32], work: &mut [u32], p: usize, to: usize, k: usize
         work[to + 1] = from[p + 1];
         return;
     }
-    let mut j: usize = 0;
-    while j < k {
+    for j in 0..k {
         work[to + j] = from[p + j];
-        j += 1;
     }
 }
 
@@ -295,9 +238,7 @@ pub(crate) fn fill(
         store[p + 1] = slot(file, work, base, at + 1);
         return;
     }
-    let mut j: usize = 0;
-    while j < k {
+    for j in 0..k {
         store[p + j] = slot(file, work, base, at + j);
-        j += 1;
     }
 }

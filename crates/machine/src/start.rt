@@ -1,383 +1,93 @@
-// The start of a run: answers 22, 23 and 24.
-ghost use Rattle.std.specs.Prelude.{◌≡◌, ◌+◌, ◌-◌, ◌/◌, ◌<◌, ◌≤◌, length, slice_index};
-ghost use Rattle.standing.specs.Bytes.{byte_at};
+// The start of a run: its arguments are tested, and each cell that they reach, before a step is made.
+ghost use Rattle.std.specs.Prelude.{◌≡◌, ◌+◌, ◌-◌, ◌/◌, ◌<◌, ◌≤◌, ◌==◌, length, slice_index};
 ghost use Rattle.meaning.specs.Syntax.{File};
 ghost use Rattle.standing.specs.Table.{Declared};
-ghost use Rattle.machine.specs.StartWords.{Coded, bit_at, code_from, number_fine, numbers_fine, cell_fine, word_fine, field_fine, trees_fine, inside_fine, mode_at, number_arg, tree_arg, all_from};
-ghost use Rattle.machine.specs.StartArea.{area, bump_to, bump, cleared, used_once, name_at, field_at, fields_at, expand_at, drain_at, drain_fine, arg_at, args_at, args_fine, owned_area, owned_fine, all_area, all_fine, free_area, free_fine, Went, Passed, Meant};
+ghost use Rattle.machine.specs.StartWords.{Coded, bit_at, code_from, number_fine, numbers_fine, cell_fine, word_fine, mode_byte, mode_at, number_arg, all_from};
+ghost use Rattle.machine.specs.StartArea.{area, bump, goal_of, cleared, used_once, Passed, Meant};
 ghost use Rattle.meaning.specs.Answers.{wiped};
 
 use crate::frame::{Store, Work};
-use meaning::CONSTRUCTORS;
+use meaning::{CONSTRUCTORS, Fault};
+use standing::{Rules, Table, byte_at};
 
-// What comes back from a walk that has met a malformed word: no queue is as long.
-const BAD: usize = Work::WORDS;
-
-// The code of a number that no constructor has: no constructor's is as large.
-const UNDECLARED: u32 = 256;
-
-// The modes of a parameter.
-const NUMBER: u32 = 0;
-
-const LENT: u32 = 1;
-
-const OWNED: u32 = 2;
-
-// A byte of the file, 0 past its end.
-fn byte_at(file: &[u8], at: usize) -> u32
-    ensures { (result ≡ byte_at file.now at) × (result < 256) }
-{
-    if file.len() <= at {
-        return 0;
-    }
-    file[at] as u32
+// How a function takes an argument: the byte that says so.
+#[derive(Clone, Copy, Debug, PartialEq, Eq)]
+enum Mode {
+    Number = 0,
+    Lent = 1,
+    Owned = 2,
 }
 
 // A field of a constructor, by its word in the table: 1 a tree, 16 a number, 0 past the arity.
-fn bit_of(file: &[u8], kind: u32, i: u32) -> u32
+#[tactic(auto, unfolding(crate::specs::StartWords::bit_at, meaning::specs::Choice::pick))]
+fn bit_of(file: &[u8], word: u32, i: u32) -> u32
     requires { i < 4 }
-    ensures { (result ≡ bit_at file.now kind i) × (result ≤ 16) }
+    ensures { (result ≡ bit_at file.now word i) × (result ≤ 16) }
 {
-    if kind % 256 <= i {
+    if word % 256 <= i {
         return 0;
     }
-    let b = byte_at(file, (kind / 256 + i) as usize);
-    if b == 0 {
+    if byte_at(file, (word / 256 + i) as usize) == 0 {
         return 16;
     }
     1
 }
 
 // A constructor's code: bit i where its field i is a tree, bit 4 + i where it is a number.
-fn code_of(file: &[u8], kind: u32) -> u32
-    ensures { result ≡ code_from file.now kind 4 0 }
+#[tactic(auto, unfolding(crate::specs::StartWords::code_from))]
+fn code_of(file: &[u8], word: u32) -> u32
+    ensures { result ≡ code_from file.now word 4 0 }
 {
-    let b0 = bit_of(file, kind, 0);
-    let b1 = bit_of(file, kind, 1);
-    let b2 = bit_of(file, kind, 2);
-    let b3 = bit_of(file, kind, 3);
-    b0 + 2 * (b1 + 2 * (b2 + 2 * b3))
+    bit_of(file, word, 0)
+        + 2 * (bit_of(file, word, 1) + 2 * (bit_of(file, word, 2) + 2 * bit_of(file, word, 3)))
 }
 
-// The code of each constructor, by its number.
-fn codes_of(file: &[u8], decl: &[u32; 128]) -> [u32; CONSTRUCTORS]
-    ensures { (tree : File) → Declared tree file.now decl.now → Coded tree result }
+// The code of each declared constructor, by its number, written into a buffer.
+fn codes_of<'a>(rules: Rules, codes: &'a mut [u32; CONSTRUCTORS]) -> &'a [u32]
+    ensures { (tree : File) → Declared tree rules.entry.file.now rules.entry.table.now.words → Coded tree result.now }
 {
-    let mut codes = [UNDECLARED; CONSTRUCTORS];
-    let mut i: usize = 0;
-    while i < CONSTRUCTORS {
-        let kind = decl[i];
-        if kind % 256 == 255 {
-            return codes;
+    for i in 0..CONSTRUCTORS {
+        let word = rules.table.words[i];
+        if word % 256 == Table::NONE {
+            return &codes[..i];
         }
-        codes[i] = code_of(file, kind);
-        i += 1;
+        codes[i] = code_of(rules.file, word);
     }
     codes
 }
 
 // A word whose bit is not set, or a number.
+#[tactic(auto, unfolding(crate::specs::StartWords::number_fine, meaning::specs::Choice::pick))]
 fn number_fine(bits: u32, w: u32) -> bool
     ensures { result ≡ number_fine bits w }
 {
-    if bits % 2 == 1 {
-        return w < Store::NUMBERS;
-    }
-    true
+    bits % 2 == 0 || w < Store::NUMBERS
 }
 
 // Of four words from a place on, those whose bit is set are numbers.
 fn numbers_in(store: &[u32], at: usize, bits: u32) -> bool
-    requires { (at + 4 ≤ length store.now) × (bits < 16) }
+    requires { at + 4 ≤ length store.now }
     ensures { result ≡ numbers_fine store.now 4 bits at }
 {
     let mut rest = bits;
-    let mut p = at;
-    while 0 < rest {
-        let f = number_fine(rest, store[p]);
-        if !f {
+    for w in &store[at..at + 4] {
+        if rest == 0 {
+            break;
+        }
+        if !number_fine(rest, *w) {
             return false;
         }
-        rest = rest / 2;
-        p += 1;
+        rest /= 2;
     }
     true
 }
 
-// A cell in the store, of a constructor of arity 1 or more, whose number fields are numbers.
-fn cell_fine(codes: &[u32; CONSTRUCTORS], store: &[u32], c: usize) -> bool
-    requires { c < 4294967296 }
-    ensures { result ≡ cell_fine codes.now store.now c }
-{
-    let base = Store::CELL * c;
-    if store.len() < base + Store::CELL {
-        return false;
-    }
-    let con = store[base] as usize;
-    if CONSTRUCTORS <= con {
-        return false;
-    }
-    let code = codes[con];
-    if code == 0 {
-        return false;
-    }
-    if UNDECLARED <= code {
-        return false;
-    }
-    numbers_in(store, base + 1, code / 16)
-}
-
-// A tree word that is not malformed.
-fn word_fine(codes: &[u32; CONSTRUCTORS], store: &[u32], w: u32) -> bool
-    ensures { result ≡ word_fine codes.now store.now w }
-{
-    if Store::FIRST <= w {
-        return cell_fine(codes, store, (w - Store::FIRST) as usize);
-    }
-    let con = w as usize;
-    if CONSTRUCTORS <= con {
-        return false;
-    }
-    codes[con] == 0
-}
-
-// One more naming of a cell, which is queued when the goal is met.
-fn bump_to(work: &mut [u32], base: usize, goal: u32, tail: usize, c: usize) -> usize
-    requires { (base ≤ 2048) × (c < 1024) × (tail ≤ 1024) × (4096 ≤ length work.old) }
-    ensures { (area work.new result ≡ bump_to base goal (area work.old tail) c) × (result ≤ 1024) × (wiped 4096 work.new ≡ wiped 4096 work.old) }
-{
-    let n = std::num::wrapping_add_u32(work[base + c], 1);
-    work[base + c] = n;
-    if n == goal {
-        if Store::CELLS <= tail {
-            return tail;
-        }
-        work[base + Work::QUEUE + tail] = c as u32;
-        return tail + 1;
-    }
-    tail
-}
-
-// The goal of the first walk is the first naming; that of the second is the last, which the first has counted.
-fn bump_cell(work: &mut [u32], base: usize, tail: usize, c: usize) -> usize
-    requires { (base ≤ 2048) × (c < 1024) × (tail ≤ 1024) × (4096 ≤ length work.old) }
-    ensures { (area work.new result ≡ bump base (area work.old tail) c) × (result ≤ 1024) × (wiped 4096 work.new ≡ wiped 4096 work.old) }
-{
-    if base == Work::FIRST_WALK {
-        return bump_to(work, base, 1, tail, c);
-    }
-    let goal = work[c];
-    bump_to(work, base, goal, tail, c)
-}
-
-// The cell that a word names, if it names one.
-fn name_word(
-    codes: &[u32; CONSTRUCTORS],
-    store: &[u32],
-    work: &mut [u32],
-    base: usize,
-    tail: usize,
-    w: u32,
-) -> usize
-    requires { (base ≤ 2048) × (tail ≤ 1024) × (4096 ≤ length work.old) × (length store.now ≤ 5120) }
-    ensures { Went work.old work.new result (word_fine codes.now store.now w) (name_at codes.now store.now base (area work.old tail) w) }
-{
-    let f = word_fine(codes, store, w);
-    if !f {
-        return BAD;
-    }
-    if Store::FIRST <= w {
-        let c = (w - Store::FIRST) as usize;
-        return bump_cell(work, base, tail, c);
-    }
-    tail
-}
-
-// The cell that a word names, if its bit is set.
-fn name_field(
-    codes: &[u32; CONSTRUCTORS],
-    store: &[u32],
-    work: &mut [u32],
-    base: usize,
-    tail: usize,
-    bits: u32,
-    w: u32,
-) -> usize
-    requires { (base ≤ 2048) × (tail ≤ 1024) × (4096 ≤ length work.old) × (length store.now ≤ 5120) }
-    ensures { Went work.old work.new result (field_fine codes.now store.now bits w) (field_at codes.now store.now base bits w (area work.old tail)) }
-{
-    if bits % 2 == 1 {
-        return name_word(codes, store, work, base, tail, w);
-    }
-    tail
-}
-
-// Of four words from a place on, the cells that those name whose bit is set.
-fn name_fields(
-    codes: &[u32; CONSTRUCTORS],
-    store: &[u32],
-    work: &mut [u32],
-    base: usize,
-    tail: usize,
-    at: usize,
-    bits: u32,
-) -> usize
-    requires { (base ≤ 2048) × (tail ≤ 1024) × (4096 ≤ length work.old) × (length store.now ≤ 5120) × (at + 4 ≤ length store.now) × (bits < 16) }
-    ensures { Went work.old work.new result (trees_fine codes.now store.now 4 bits at) (fields_at codes.now store.now base 4 bits at (area work.old tail)) }
-{
-    let mut t = tail;
-    let mut rest = bits;
-    let mut p = at;
-    while 0 < rest {
-        t = name_field(codes, store, work, base, t, rest, store[p]);
-        if t == BAD {
-            return BAD;
-        }
-        rest = rest / 2;
-        p += 1;
-    }
-    t
-}
-
-// The cells that a cell names.
-fn expand(
-    codes: &[u32; CONSTRUCTORS],
-    store: &[u32],
-    work: &mut [u32],
-    base: usize,
-    tail: usize,
-    c: usize,
-) -> usize
-    requires { (base ≤ 2048) × (tail ≤ 1024) × (4096 ≤ length work.old) × (length store.now ≤ 5120) × (c < 4294967296) }
-    ensures { Went work.old work.new result (inside_fine codes.now store.now c) (expand_at codes.now store.now base (area work.old tail) c) }
-{
-    let at = Store::CELL * c;
-    if store.len() < at + Store::CELL {
-        return tail;
-    }
-    let con = store[at] as usize;
-    if CONSTRUCTORS <= con {
-        return tail;
-    }
-    let code = codes[con];
-    name_fields(codes, store, work, base, tail, at + 1, code % 16)
-}
-
-// Cells are expanded in the order in which they were queued.
-fn drain_queue(
-    codes: &[u32; CONSTRUCTORS],
-    store: &[u32],
-    work: &mut [u32],
-    base: usize,
-    head: usize,
-    tail: usize,
-) -> usize
-    requires { (base ≤ 2048) × (tail ≤ 1024) × (head ≤ 1024) × (4096 ≤ length work.old) × (length store.now ≤ 5120) }
-    ensures { Went work.old work.new result (drain_fine codes.now store.now base 1024 head (area work.old tail)) (drain_at codes.now store.now base 1024 head (area work.old tail)) }
-{
-    let mut t = tail;
-    let mut n: usize = 0;
-    while n < Store::CELLS {
-        let h = head + n;
-        if t <= h {
-            return t;
-        }
-        let c = work[base + Work::QUEUE + h] as usize;
-        t = expand(codes, store, work, base, t, c);
-        if t == BAD {
-            return BAD;
-        }
-        n += 1;
-    }
-    t
-}
-
-// The mode of a function's parameter, by the function's word in the table.
-fn mode_at(file: &[u8], head: u32, i: usize) -> u32
-    requires { i < 4294967296 }
-    ensures { result ≡ byte_at file.now (head / 256 + i) }
-{
-    byte_at(file, (head / 256) as usize + i)
-}
-
-// How the first function takes an argument: 0 number, 1 lent, 2 owned.
-fn mode_of(file: &[u8], decl: &[u32; 128], i: usize) -> u32
-    requires { i < 4294967296 }
-    ensures { result ≡ mode_at file.now decl.now i }
-{
-    let head = decl[64];
-    mode_at(file, head, i)
-}
-
-// The cell that an argument names, if it is of a mode.
-fn name_arg(
-    file: &[u8],
-    decl: &[u32; 128],
-    codes: &[u32; CONSTRUCTORS],
-    store: &[u32],
-    args: &[u32],
-    work: &mut [u32],
-    base: usize,
-    tail: usize,
-    mode: u32,
-    i: usize,
-) -> usize
-    requires { (base ≤ 2048) × (tail ≤ 1024) × (4096 ≤ length work.old) × (length store.now ≤ 5120) × (i < length args.now) × (i < 255) }
-    ensures { Went work.old work.new result (tree_arg file.now decl.now codes.now store.now args.now mode i) (arg_at file.now decl.now codes.now store.now base args.now mode i (area work.old tail)) }
-{
-    let m = mode_of(file, decl, i);
-    if m == mode {
-        return name_word(codes, store, work, base, tail, args[i]);
-    }
-    tail
-}
-
-// The cells that the arguments of a mode name.
-fn name_args(
-    file: &[u8],
-    decl: &[u32; 128],
-    codes: &[u32; CONSTRUCTORS],
-    store: &[u32],
-    args: &[u32],
-    work: &mut [u32],
-    base: usize,
-    tail: usize,
-    mode: u32,
-) -> usize
-    requires { (base ≤ 2048) × (tail ≤ 1024) × (4096 ≤ length work.old) × (length store.now ≤ 5120) × (length args.now ≤ 255) }
-    ensures { Went work.old work.new result (args_fine file.now decl.now codes.now store.now args.now mode) (args_at file.now decl.now codes.now store.now base args.now mode (length args.now) 0 (area work.old tail)) }
-{
-    let mut t = tail;
-    let mut i: usize = 0;
-    while i < args.len() {
-        t = name_arg(file, decl, codes, store, args, work, base, t, mode, i);
-        if t == BAD {
-            return BAD;
-        }
-        i += 1;
-    }
-    t
-}
-
 // The n words from a place on are zero.
 pub(crate) fn clear(work: &mut [u32], base: usize, n: usize)
-    requires { (base + n ≤ 4096) × (4096 ≤ length work.old) }
+    requires { base + n ≤ length work.old }
     ensures { work.new ≡ cleared base n work.old }
 {
-    let mut i: usize = 0;
-    while i < n {
-        work[base + i] = 0;
-        i += 1;
-    }
-}
-
-// No naming of a cell of the store is counted.
-fn clear_counts(store: &[u32], work: &mut [u32], base: usize)
-    requires { (base ≤ 2048) × (length store.now ≤ 5120) × (4096 ≤ length work.old) }
-    ensures { work.new ≡ cleared base (length store.now / 5) work.old }
-{
-    let lent = Store::of(store.len());
-    clear(work, base, lent.cells);
+    work[base..base + n].fill(0);
 }
 
 // Every word of the layout is zero, and the rest is untouched.
@@ -385,198 +95,314 @@ pub(crate) fn wipe(work: &mut [u32])
     requires { 4096 ≤ length work.old }
     ensures { work.new ≡ wiped 4096 work.old }
 {
-    let mut i: usize = 0;
-    while i < Work::WORDS {
-        work[i] = 0;
-        i += 1;
-    }
+    work[..Work::WORDS].fill(0);
 }
 
-// An argument of another mode, or a number.
-fn number_arg(mode: u32, w: u32) -> bool
-    ensures { result ≡ number_arg mode w }
-{
-    if mode == NUMBER {
-        return w < Store::NUMBERS;
-    }
-    true
+// What a start is tested on: the file with the table of its declarations, and the arguments of its first function.
+#[derive(Clone, Copy)]
+struct Start<'a> {
+    rules: Rules<'a>,
+    args: &'a [u32],
+    ghost few: { length args.now ≤ 255 },
 }
 
-// Every number argument is a number.
-fn numbers_fine(file: &[u8], decl: &[u32; 128], args: &[u32]) -> bool
-    requires { length args.now ≤ 255 }
-    ensures { result ≡ all_from (λ i. number_arg (mode_at file.now decl.now i) (slice_index args.now i)) (length args.now) 0 }
-{
-    let mut i: usize = 0;
-    while i < args.len() {
-        let m = mode_of(file, decl, i);
-        let f = number_arg(m, args[i]);
-        if !f {
-            return false;
+impl<'a> Start<'a> {
+    // The first function takes an argument so.
+    fn takes(&self, i: usize, mode: Mode) -> bool
+        requires { i < length self.now.args.now }
+        ensures { result ≡ (mode_at self.now.rules.file.now self.now.rules.table.now.words i == mode_byte mode) }
+    {
+        self.rules.byte(self.rules.table.modes(0) + i) == mode as usize
+    }
+
+    // An argument of another mode, or a number.
+    #[tactic(auto, unfolding(crate::specs::StartWords::number_arg, meaning::specs::Choice::pick))]
+    fn number_arg(&self, i: usize) -> bool
+        requires { i < length self.now.args.now }
+        ensures { result ≡ number_arg (mode_at self.now.rules.file.now self.now.rules.table.now.words i) (slice_index self.now.args.now i) }
+    {
+        !self.takes(i, Mode::Number) || self.args[i] < Store::NUMBERS
+    }
+
+    // Every number argument is a number.
+    fn numbers_fine(&self) -> bool
+        ensures { result ≡ all_from (λ i. number_arg (mode_at self.now.rules.file.now self.now.rules.table.now.words i) (slice_index self.now.args.now i)) (length self.now.args.now) 0 }
+    {
+        for i in 0..self.args.len() {
+            if !self.number_arg(i) {
+                return false;
+            }
         }
-        i += 1;
+        true
     }
-    true
 }
 
-// None of the queued cells from one on has been named twice.
-fn used_once(work: &[u32], from: usize, tail: usize) -> bool
-    requires { (4096 ≤ length work.now) × (tail ≤ 1024) }
-    ensures { result ≡ all_from (λ i. used_once work.now (slice_index work.now (1024 + i))) (tail - from) from }
-{
-    let mut i: usize = from;
-    while i < tail {
-        let c = work[Work::QUEUE + i] as usize;
-        if Store::CELLS <= c {
-            return false;
-        }
-        if 1 < work[c] {
-            return false;
-        }
-        i += 1;
-    }
-    true
-}
-
-// The cells that owned arguments reach are queued; their count comes back.
-fn walk_owned(
-    file: &[u8],
-    decl: &[u32; 128],
-    codes: &[u32; CONSTRUCTORS],
-    store: &[u32],
-    args: &[u32],
-    work: &mut [u32],
-) -> usize
-    requires { (4096 ≤ length work.old) × (length store.now ≤ 5120) × (length args.now ≤ 255) }
-    ensures { Went work.old work.new result (owned_fine file.now decl.now codes.now store.now args.now work.old) (owned_area file.now decl.now codes.now store.now args.now work.old) }
-{
-    clear_counts(store, work, Work::FIRST_WALK);
-    let t = name_args(
-        file,
-        decl,
-        codes,
-        store,
-        args,
-        work,
-        Work::FIRST_WALK,
-        0,
-        OWNED,
-    );
-    if t == BAD {
-        return BAD;
-    }
-    drain_queue(codes, store, work, Work::FIRST_WALK, 0, t)
-}
-
-// The further cells that lent arguments reach are queued behind those.
-fn walk_lent(
-    file: &[u8],
-    decl: &[u32; 128],
-    codes: &[u32; CONSTRUCTORS],
-    store: &[u32],
-    args: &[u32],
-    work: &mut [u32],
+// A walk over the cells of a store, by the codes of the constructors: the place of its counts in the work area, and how many cells it has queued.
+#[derive(Drop)]
+struct Walk<'a> {
+    codes: &'a [u32],
+    store: &'a [u32],
+    work: &'a mut [u32],
+    base: usize,
     tail: usize,
-) -> usize
-    requires { (4096 ≤ length work.old) × (length store.now ≤ 5120) × (length args.now ≤ 255) × (tail ≤ 1024) }
-    ensures { Went work.old work.new result (all_fine file.now decl.now codes.now store.now args.now (area work.old tail)) (all_area file.now decl.now codes.now store.now args.now (area work.old tail)) }
-{
-    let t = name_args(
-        file,
-        decl,
-        codes,
-        store,
-        args,
-        work,
-        Work::FIRST_WALK,
-        tail,
-        LENT,
-    );
-    if t == BAD {
-        return BAD;
-    }
-    drain_queue(codes, store, work, Work::FIRST_WALK, tail, t)
+    ghost fits: { (length store.now ≤ 5120) × (4096 ≤ length work.now) × (base ≤ 2048) × (tail ≤ 1024) },
 }
 
-// The cells that no cycle holds back: each is queued at its last naming.
-fn walk_free(
-    file: &[u8],
-    decl: &[u32; 128],
-    codes: &[u32; CONSTRUCTORS],
-    store: &[u32],
-    args: &[u32],
-    work: &mut [u32],
-) -> usize
-    requires { (4096 ≤ length work.old) × (length store.now ≤ 5120) × (length args.now ≤ 255) }
-    ensures { Went work.old work.new result (free_fine file.now decl.now codes.now store.now args.now work.old) (free_area file.now decl.now codes.now store.now args.now work.old) }
-{
-    clear_counts(store, work, Work::SECOND_WALK);
-    let t = name_args(
-        file,
-        decl,
-        codes,
-        store,
-        args,
-        work,
-        Work::SECOND_WALK,
-        0,
-        OWNED,
-    );
-    if t == BAD {
-        return BAD;
+impl<'a> Walk<'a> {
+    ghost use Rattle.machine.specs.StartWalk.{area_of, Kept, Names, NamesField, NamesFields, Expands, Drains, NamesArg, NamesArgs, Reaches, Frees};
+
+    // A walk begins: no naming of a cell of the store is counted, and none is queued.
+    #[tactic(auto, using(crate::proofs::start::Cleared::wiped_cleared))]
+    fn begin(&mut self, base: usize)
+        requires { base ≤ 2048 }
+        ensures kept { Kept self.old self.new }
+        ensures base { self.new.base ≡ base }
+        ensures begun { area_of self.new ≡ area (cleared base (length self.old.store.now / 5) self.old.work.now) 0 }
+    {
+        clear(self.work, base, Store::of(self.store.len()).cells);
+        self.base = base;
+        self.tail = 0;
     }
-    let u = name_args(
-        file,
-        decl,
-        codes,
-        store,
-        args,
-        work,
-        Work::SECOND_WALK,
-        t,
-        LENT,
-    );
-    if u == BAD {
-        return BAD;
+
+    // A cell in the store, of a constructor of arity 1 or more, whose number fields are numbers.
+    #[tactic(auto, unfolding(crate::specs::StartWords::cell_fine, meaning::specs::Choice::pick))]
+    fn cell_fine(&self, c: usize) -> bool
+        requires { c < 4294967296 }
+        ensures { result ≡ cell_fine self.now.codes.now self.now.store.now c }
+    {
+        let at = Store::CELL * c;
+        if self.store.len() < at + Store::CELL {
+            return false;
+        }
+        match self.codes.get(self.store[at] as usize) {
+            None | Some(0) => false,
+            Some(code) => numbers_in(self.store, at + 1, code / 16),
+        }
     }
-    drain_queue(codes, store, work, Work::SECOND_WALK, 0, u)
+
+    // A tree word that is not malformed.
+    #[tactic(auto, unfolding(crate::specs::StartWords::word_fine, meaning::specs::Choice::pick))]
+    fn word_fine(&self, w: u32) -> bool
+        ensures { result ≡ word_fine self.now.codes.now self.now.store.now w }
+    {
+        if Store::FIRST <= w {
+            return self.cell_fine((w - Store::FIRST) as usize);
+        }
+        self.codes.get(w as usize) == Some(&0)
+    }
+
+    // The naming of a cell that queues it: the first in the first walk, and the last, by the first walk's count, in the second.
+    #[tactic(auto, unfolding(crate::specs::StartArea::goal_of, meaning::specs::Choice::pick))]
+    fn goal(&self, c: usize) -> u32
+        requires { c < 1024 }
+        ensures { result ≡ goal_of self.now.base self.now.work.now c }
+    {
+        if self.base == Work::FIRST_WALK {
+            return 1;
+        }
+        self.work[c]
+    }
+
+    // One more naming of a cell.
+    #[tactic(auto, using(crate::proofs::start::Cleared::wiped_set), unfolding(crate::specs::StartArea::bump_to, crate::specs::StartArea::counted, meaning::specs::Choice::pick))]
+    fn bump(&mut self, c: usize)
+        requires { c < 1024 }
+        ensures kept { Kept self.old self.new }
+        ensures base { self.new.base ≡ self.old.base }
+        ensures bumped { area_of self.new ≡ bump self.old.base (area_of self.old) c }
+    {
+        let goal = self.goal(c);
+        let count = self.work[self.base + c].wrapping_add(1);
+        self.work[self.base + c] = count;
+        if count != goal || Store::CELLS <= self.tail {
+            return;
+        }
+        self.work[self.base + Work::QUEUE + self.tail] = c as u32;
+        self.tail += 1;
+    }
+
+    // The cell that a word names, if it names one.
+    #[inline(always)]
+    #[tactic(auto, using(crate::proofs::start::Fine::word_small), unfolding(crate::specs::StartArea::name_at, meaning::specs::Choice::pick))]
+    fn name(&mut self, w: u32) -> Result<(), Fault>
+        ensures { Names self.old self.new result w }
+    {
+        if !self.word_fine(w) {
+            return Err(Fault::Malformed);
+        }
+        if Store::FIRST <= w {
+            self.bump((w - Store::FIRST) as usize);
+        }
+        Ok(())
+    }
+
+    // The cell that a word names, if its bit is set.
+    #[tactic(auto, unfolding(crate::specs::StartWords::field_fine, crate::specs::StartArea::field_at, meaning::specs::Choice::pick))]
+    fn name_field(&mut self, bits: u32, w: u32) -> Result<(), Fault>
+        ensures { NamesField self.old self.new result bits w }
+    {
+        if bits % 2 == 1 {
+            return self.name(w);
+        }
+        Ok(())
+    }
+
+    // Of four words from a place on, the cells that those name whose bit is set.
+    fn name_fields(&mut self, at: usize, bits: u32) -> Result<(), Fault>
+        requires { at + 4 ≤ length self.old.store.now }
+        ensures { NamesFields self.old self.new result at bits }
+    {
+        let words = &self.store[at..at + 4];
+        let mut rest = bits;
+        for w in words {
+            if rest == 0 {
+                break;
+            }
+            self.name_field(rest, *w)?;
+            rest /= 2;
+        }
+        Ok(())
+    }
+
+    // The cells that a cell names.
+    #[tactic(auto, unfolding(crate::specs::StartWords::inside_fine, crate::specs::StartArea::expand_at, meaning::specs::Choice::pick))]
+    fn expand(&mut self, c: usize) -> Result<(), Fault>
+        requires { c < 4294967296 }
+        ensures { Expands self.old self.new result c }
+    {
+        let at = Store::CELL * c;
+        if self.store.len() < at + Store::CELL {
+            return Ok(());
+        }
+        match self.codes.get(self.store[at] as usize) {
+            None => Ok(()),
+            Some(code) => self.name_fields(at + 1, code % 16),
+        }
+    }
+
+    // Cells are expanded in the order in which they were queued, from one on.
+    fn drain(&mut self, from: usize) -> Result<(), Fault>
+        ensures { Drains self.old self.new result from }
+    {
+        for head in from..Store::CELLS {
+            if self.tail <= head {
+                return Ok(());
+            }
+            let c = self.work[self.base + Work::QUEUE + head];
+            self.expand(c as usize)?;
+        }
+        Ok(())
+    }
+
+    // The cell that an argument names, if it is of a mode.
+    #[tactic(auto, unfolding(crate::specs::StartWords::tree_arg, crate::specs::StartArea::arg_at, meaning::specs::Choice::pick))]
+    fn name_arg(&mut self, start: &Start, mode: Mode, i: usize) -> Result<(), Fault>
+        requires { i < length start.now.args.now }
+        ensures { NamesArg start.now self.old self.new result mode i }
+    {
+        if start.takes(i, mode) {
+            return self.name(start.args[i]);
+        }
+        Ok(())
+    }
+
+    // The cells that the arguments of a mode name.
+    fn name_args(&mut self, start: &Start, mode: Mode) -> Result<(), Fault>
+        ensures { NamesArgs start.now self.old self.new result mode }
+    {
+        for i in 0..start.args.len() {
+            self.name_arg(start, mode, i)?;
+        }
+        Ok(())
+    }
+
+    // The further cells that the arguments of a mode reach.
+    fn reach(&mut self, start: &Start, mode: Mode) -> Result<(), Fault>
+        ensures { Reaches start.now self.old self.new result mode }
+    {
+        let from = self.tail;
+        self.name_args(start, mode)?;
+        self.drain(from)
+    }
+
+    // The second walk, over the cells that no cycle holds back: each is queued at its last naming.
+    fn free(&mut self, start: &Start) -> Result<(), Fault>
+        ensures { Frees start.now self.old self.new result }
+    {
+        self.begin(Work::SECOND_WALK);
+        self.name_args(start, Mode::Owned)?;
+        self.name_args(start, Mode::Lent)?;
+        self.drain(0)
+    }
+
+    // A cell is one of the store's, and has been named once.
+    #[tactic(auto, unfolding(crate::specs::StartArea::used_once, meaning::specs::Choice::pick))]
+    fn named_once(&self, c: usize) -> bool
+        ensures { result ≡ used_once self.now.work.now c }
+    {
+        c < Store::CELLS && self.work[c] <= 1
+    }
+
+    // None of the queued cells from one on, up to another, has been named twice.
+    fn used_once(&self, from: usize, to: usize) -> bool
+        requires { to ≤ 1024 }
+        ensures { result ≡ all_from (λ i. used_once self.now.work.now (slice_index self.now.work.now (1024 + i))) (to - from) from }
+    {
+        for i in from..to {
+            if !self.named_once(self.work[Work::QUEUE + i] as usize) {
+                return false;
+            }
+        }
+        true
+    }
+
+    // The start's fault, if it has one.
+    fn fault(&mut self, start: &Start) -> Result<(), Fault>
+        requires passed { Passed start.now.rules.file.now start.now.rules.table.now.words start.now.args.now self.old.store.now self.old.work.now }
+        requires coded { (tree : File) → Declared tree start.now.rules.file.now start.now.rules.table.now.words → Coded tree self.old.codes.now }
+        ensures meant { Meant start.now.rules.file.now start.now.rules.table.now.words start.now.args.now self.old.store.now self.old.work.now result }
+        ensures kept { Kept self.old self.new }
+    {
+        if !start.numbers_fine() {
+            return Err(Fault::Malformed);
+        }
+        self.begin(Work::FIRST_WALK);
+        self.reach(start, Mode::Owned)?;
+        let owned = self.tail;
+        self.reach(start, Mode::Lent)?;
+        let all = self.tail;
+        if !self.used_once(0, owned) {
+            return Err(Fault::NamedTwice);
+        }
+        if self.used_once(owned, all) {
+            return Ok(());
+        }
+        self.free(start)?;
+        if self.tail < all {
+            return Err(Fault::ReachesItself);
+        }
+        Ok(())
+    }
 }
 
-// Answers 22, 23 and 24, or 0; only the first 4,096 words of the work area are changed.
+// The start's fault, if it has one; only the first 4,096 words of the work area are changed.
 pub(crate) fn start_answer(
-    file: &[u8],
-    decl: &[u32; 128],
+    rules: Rules,
     args: &[u32],
     store: &[u32],
     work: &mut [u32],
-) -> u32
-    requires { Passed file.now decl.now args.now store.now work.old }
-    ensures { Meant file.now decl.now args.now store.now work.old result × (wiped 4096 work.new ≡ wiped 4096 work.old) }
+) -> Result<(), Fault>
+    requires { Passed rules.file.now rules.table.now.words args.now store.now work.old }
+    ensures meant { Meant rules.entry.file.now rules.entry.table.now.words args.now store.now work.old result }
+    ensures behind { wiped 4096 work.new ≡ wiped 4096 work.old }
 {
-    let codes = codes_of(file, decl);
-    let fine = numbers_fine(file, decl, args);
-    if !fine {
-        return 22;
-    }
-    let owned = walk_owned(file, decl, &codes, store, args, work);
-    if owned == BAD {
-        return 22;
-    }
-    let all = walk_lent(file, decl, &codes, store, args, work, owned);
-    if all == BAD {
-        return 22;
-    }
-    let own = used_once(work, 0, owned);
-    if !own {
-        return 23;
-    }
-    let single = used_once(work, owned, all);
-    if single {
-        return 0;
-    }
-    let free = walk_free(file, decl, &codes, store, args, work);
-    if free < all {
-        return 24;
-    }
-    0
+    let mut codes = [0; CONSTRUCTORS];
+    let mut walk = Walk {
+        codes: codes_of(rules, &mut codes),
+        store,
+        work,
+        base: Work::FIRST_WALK,
+        tail: 0,
+    };
+    walk.fault(&Start { rules, args })
 }

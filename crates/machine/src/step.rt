@@ -1,52 +1,31 @@
-// One node a step, and the run of so many steps.
-ghost use Rattle.std.specs.Prelude.{◌≡◌, ℕ, ◌+◌, ◌-◌, ◌*◌, ◌/◌, ◌<◌, ◌≤◌, max, length, drop, ◌==◌, ◌≢◌, nat_lt, slice_index};
-ghost use Rattle.meaning.specs.Marks.{find_mark};
-ghost use Rattle.meaning.specs.Plain.{ranged, arithmetic, flag};
+// One node a step, and the run of so many steps. The store and the work area go through as `run` is lent them, and the state beside them by value,
+// so that it stays in registers.
+ghost use Rattle.std.specs.Prelude.{◌≡◌, ℕ, ◌+◌, ◌-◌, ◌*◌, ◌/◌, ◌<◌, ◌≤◌, true, false, length, drop, slice_index};
+ghost use Rattle.meaning.specs.Marks.{mark_of, place_of};
+ghost use Rattle.meaning.specs.Plain.{flag};
+ghost use Rattle.meaning.specs.Answers.{number, as_end, value_of};
+ghost use Rattle.meaning.specs.declared.RunEnd.{RunEnd};
 ghost use Rattle.meaning.specs.Machine.{run};
 ghost use Rattle.meaning.specs.InPlace.{begins};
 ghost use Rattle.standing.specs.Bytes.{mark_at, arity_in, params_in, body_in};
-ghost use Rattle.machine.specs.Layout.{top, nu_of, at_of, ar_of, gv_of, tl_of, cl_of, mk_of, mk_store, con_of, opened_of, first_of};
-ghost use Rattle.machine.specs.Skips.{Safe, then_of, next_of, opens_of, Skips, SkipsAll, SkipsMany, Found, EndNeeds, Keeps};
+ghost use Rattle.machine.specs.Layout.{slot_in, on, at_work, goes, ended, nu_of, at_of, ar_of, gv_of, tl_of, cl_of, mk_of, mk_store, con_of, opened_of, first_of};
+ghost use Rattle.machine.specs.Skips.{Safe, then_of, next_of, opens_of, Skips, SkipsAll, SkipsMany, EndNeeds, kept_at, EndFound, BranchFound};
 ghost use Rattle.machine.specs.Needs.{Room, MkNeeds, CallNeeds, OpenNeeds};
 ghost use Rattle.machine.specs.Represents.{Fit, Reached, Begun};
-ghost use Rattle.machine.specs.Steps.{Steps, Tried, Node, Opened, Chosen, by_distance, credit_of, place_of, answer_of};
+ghost use Rattle.machine.specs.Steps.{Opened, Chosen, Comes, Stepped, Node, by_distance, ending, place_of as place_at, answer_of};
 
 use crate::frame::{
-    Frame, State, Store, bind, byte, fill, finish, go_to, hand_over, load, pass_on, slot, wide,
+    Frame, State, Store, Work, bind, byte, fill, go_to, hand_over, load, pass_on, slot,
 };
-use meaning::{AR, AT, BR, CL, GV, IF, LK, MK, NU, OP, OTHER, TL, mark_row};
-
-// The place of a mark in the table of marks.
-fn find_mark(mark: u16) -> usize
-    ensures { result ≡ find_mark mark }
-{
-    meaning::find_mark(mark).place()
-}
-
-// What follows a node, and where.
-#[derive(Clone, Copy)]
-pub enum Then {
-    Leaf(usize),
-    One(usize),
-    Two(usize),
-    Many(usize, usize),
-}
+use meaning::{MARK, Mark, Ran, RunEnd, find_mark};
+use standing::{Rules, Table};
+use sums::sum;
 
 // How far a term is passed over: the byte reached, and the terms that are open there.
 #[derive(Clone, Copy)]
 pub struct Passed {
     pub at: usize,
     pub terms: usize,
-}
-
-// A run's answer in numbers.
-#[derive(Clone, Copy)]
-pub struct Ran {
-    pub number: u32,
-    pub value: u32,
-    pub steps: u32,
-    pub place: u32,
-    pub frames: u32,
 }
 
 // A run that goes on: its state, and the nodes that are left to it.
@@ -56,93 +35,29 @@ pub struct Pause {
     pub left: u32,
 }
 
-// The place in the table of the mark at a place.
-fn mark(file: &[u8], at: usize) -> usize
+// The mark at a place within the file; the checker has the same (`bodies`).
+fn mark(file: &[u8], at: usize) -> Mark
     requires { at + 2 ≤ length file.now }
-    ensures { result ≡ find_mark (mark_at file.now at) }
+    ensures { result ≡ mark_of (mark_at file.now at) }
 {
-    find_mark(file[at] as u16 * 256 + file[at + 1] as u16)
-}
-
-// A constructor's count of fields.
-fn arity(decl: &[u32; 128], c: usize) -> usize
-    requires { c < 64 }
-    ensures { (result ≡ arity_in decl.now c) × (result < 256) }
-{
-    (decl[c] % 256) as usize
-}
-
-// A function's count of parameters.
-fn params(decl: &[u32; 128], f: usize) -> usize
-    requires { f < 32 }
-    ensures { (result ≡ params_in decl.now f) × (result < 256) }
-{
-    (decl[64 + f] % 256) as usize
-}
-
-// The place of a function's body.
-fn body(decl: &[u32; 128], f: usize) -> usize
-    requires { f < 32 }
-    ensures { result ≡ body_in decl.now f }
-{
-    wide(decl[96 + f])
+    find_mark(u16::from_be_bytes([file[at], file[at + 1]]))
 }
 
 // NU: bind a constant.
+#[tactic(auto, unfolding(crate::specs::Layout::nu_of))]
 fn number(file: &[u8], work: &mut [u32], s: State) -> State
-    requires { Room 4 file.now (top s work.old) × (s.frame.bound < 32) }
-    ensures { top result work.new ≡ nu_of file.now (top s work.old) }
+    requires { Room 4 file.now (at_work s work.old) × (s.frame.bound < 32) }
+    ensures { at_work result work.new ≡ nu_of file.now (at_work s work.old) }
 {
     let at = s.frame.at;
     let n = byte(file, at + 2) * 256 + byte(file, at + 3);
     bind(work, s, n as u32, at + 4)
 }
 
-// The difference of two numbers, or a number over 65,535 where it is below 0.
-fn difference(a: u32, b: u32) -> u64
-    ensures { ranged result ≡ arithmetic 1 a b }
-{
-    if b <= a { (a - b) as u64 } else { 65536 }
-}
-
-// 1 where the first number is less than the second, else 0.
-fn less(a: u32, b: u32) -> u64
-    ensures { result ≡ flag (nat_lt a b) }
-{
-    if a < b { 1 } else { 0 }
-}
-
-// 1 where two numbers are the same, else 0.
-fn same(a: u32, b: u32) -> u64
-    ensures { result ≡ flag (a == b) }
-{
-    if a == b { 1 } else { 0 }
-}
-
-// AR's operations on two numbers: the result, or a number over 65,535 where the exact one is outside 0..65,535. What needs no jump is worked
-// out before the operation is chosen.
-fn sum(op: usize, a: u32, b: u32) -> u64
-    ensures { ranged result ≡ arithmetic op a b }
-{
-    let minus = difference(a, b);
-    let below = less(a, b);
-    let equal = same(a, b);
-    if op < 2 {
-        if op == 0 {
-            return a as u64 + b as u64;
-        }
-        return minus;
-    }
-    if op == 2 {
-        return below;
-    }
-    equal
-}
-
 // AR: bind the result of an operation, or end the run where it is outside 0..65,535.
-fn arith(file: &[u8], work: &mut [u32], s: State) -> State
-    requires { Room 5 file.now (top s work.old) × (s.frame.bound < 32) }
-    ensures { top result work.new ≡ ar_of file.now (top s work.old) }
+fn arith(file: &[u8], work: &mut [u32], s: State) -> Option<State>
+    requires { Room 5 file.now (at_work s work.old) × (s.frame.bound < 32) }
+    ensures { goes RunEnd.OutOfRange s result work.new ≡ ar_of file.now (at_work s work.old) }
 {
     let at = s.frame.at;
     let base = s.frame.depth * Frame::SLOTS;
@@ -150,15 +65,16 @@ fn arith(file: &[u8], work: &mut [u32], s: State) -> State
     let b = slot(file, work, base, at + 4);
     let v = sum(byte(file, at + 2), a, b);
     if 65535 < v {
-        return finish(s, 34, 0);
+        return None;
     }
-    bind(work, s, v as u32, at + 5)
+    Some(bind(work, s, v as u32, at + 5))
 }
 
 // AT: bind an atom.
+#[tactic(auto, unfolding(crate::specs::Layout::at_of))]
 fn atom(file: &[u8], work: &mut [u32], s: State) -> State
-    requires { Room 3 file.now (top s work.old) × (s.frame.bound < 32) }
-    ensures { top result work.new ≡ at_of file.now (top s work.old) }
+    requires { Room 3 file.now (at_work s work.old) × (s.frame.bound < 32) }
+    ensures { at_work result work.new ≡ at_of file.now (at_work s work.old) }
 {
     let at = s.frame.at;
     let c = byte(file, at + 2);
@@ -166,13 +82,14 @@ fn atom(file: &[u8], work: &mut [u32], s: State) -> State
 }
 
 // GV: the value goes to the frame below, which goes on, or ends the run.
-fn give(file: &[u8], work: &mut [u32], s: State) -> State
-    requires { Room 3 file.now (top s work.old) × (0 < s.frame.depth → slice_index work.old (1024 + (s.frame.depth - 1) * 2 + 1) < 32) }
-    ensures { top result work.new ≡ gv_of file.now (top s work.old) }
+#[tactic(auto, unfolding(crate::specs::Layout::gv_of, meaning::specs::Choice::pick))]
+fn give(file: &[u8], work: &mut [u32], s: State) -> Option<State>
+    requires { Room 3 file.now (at_work s work.old) × (0 < s.frame.depth → slice_index work.old (1024 + (s.frame.depth - 1) * 2 + 1) < 32) }
+    ensures { goes (RunEnd.Done (slot_in file.now work.new (s.frame.depth * 32) (s.frame.at + 2))) s result work.new ≡ gv_of file.now (at_work s work.old) }
 {
     let v = slot(file, work, s.frame.depth * Frame::SLOTS, s.frame.at + 2);
     if s.frame.depth == 0 {
-        return finish(s, 0, v);
+        return None;
     }
     let depth = s.frame.depth - 1;
     let q = Frame::SAVED + depth * 2;
@@ -180,572 +97,447 @@ fn give(file: &[u8], work: &mut [u32], s: State) -> State
     let bound = work[q + 1] as usize;
     let back = State {
         frame: Frame { at, depth, bound },
-        most: s.most,
-        number: State::GOING,
-        value: 0,
+        ..s
     };
-    bind(work, back, v, at)
+    Some(bind(work, back, v, at))
 }
 
 // TL: the called function's frame takes the place of the caller's.
-fn tail(file: &[u8], decl: &[u32; 128], work: &mut [u32], s: State) -> State
-    requires { CallNeeds file.now decl.now (top s work.old) }
-    ensures { top result work.new ≡ tl_of file.now decl.now (top s work.old) }
+#[tactic(auto, unfolding(crate::specs::Layout::tl_of))]
+fn tail(rules: Rules, work: &mut [u32], s: State) -> State
+    requires { CallNeeds rules.file.now rules.table.now.words (at_work s work.old) }
+    ensures { at_work result work.new ≡ tl_of rules.entry.file.now rules.entry.table.now.words (at_work s work.old) }
 {
     let at = s.frame.at;
     let base = s.frame.depth * Frame::SLOTS;
-    let g = byte(file, at + 2);
-    let n = params(decl, g);
-    pass_on(file, work, base, at + 3, n);
+    let g = byte(rules.file, at + 2);
+    let n = rules.table.parameters(g);
+    pass_on(rules.file, work, base, at + 3, n);
     State {
         frame: Frame {
-            at: body(decl, g),
-            depth: s.frame.depth,
+            at: rules.table.body(g),
             bound: n,
+            ..s.frame
         },
-        most: s.most,
-        number: State::GOING,
-        value: 0,
+        ..s
     }
-}
-
-// The larger of two numbers.
-fn larger(a: usize, b: usize) -> usize
-    ensures { result ≡ max a b }
-{
-    if a < b {
-        return b;
-    }
-    a
 }
 
 // CL: a frame for the called function; the caller's waits below it.
-fn call(file: &[u8], decl: &[u32; 128], work: &mut [u32], s: State) -> State
-    requires { CallNeeds file.now decl.now (top s work.old) }
-    ensures { top result work.new ≡ cl_of file.now decl.now (top s work.old) }
+fn call(rules: Rules, work: &mut [u32], s: State) -> Option<State>
+    requires { CallNeeds rules.file.now rules.table.now.words (at_work s work.old) }
+    ensures { goes RunEnd.NoFrame s result work.new ≡ cl_of rules.entry.file.now rules.entry.table.now.words (at_work s work.old) }
 {
     let at = s.frame.at;
     let depth = s.frame.depth;
     if Frame::MAX - 1 <= depth {
-        return finish(s, 33, 0);
+        return None;
     }
     let base = depth * Frame::SLOTS;
-    let g = byte(file, at + 2);
-    let n = params(decl, g);
+    let g = byte(rules.file, at + 2);
+    let n = rules.table.parameters(g);
     let q = Frame::SAVED + depth * 2;
     work[q] = (at + 3 + n) as u32;
     work[q + 1] = s.frame.bound as u32;
     if n == 1 {
-        let v = slot(file, work, base, at + 3);
+        let v = slot(rules.file, work, base, at + 3);
         work[base + Frame::SLOTS] = v;
     } else {
-        hand_over(file, work, base, at + 3, base + Frame::SLOTS, n);
+        hand_over(rules.file, work, base, at + 3, base + Frame::SLOTS, n);
     }
-    State {
+    Some(State {
         frame: Frame {
-            at: body(decl, g),
+            at: rules.table.body(g),
             depth: depth + 1,
             bound: n,
         },
-        most: larger(s.most, depth + 2),
-        number: State::GOING,
-        value: 0,
-    }
+        most: s.most.max(depth + 2),
+    })
 }
 
 // MK: write the credit's cell, and bind it.
-fn make(file: &[u8], decl: &[u32; 128], store: &mut [u32], work: &mut [u32], s: State) -> State
-    requires { MkNeeds file.now decl.now store.old (top s work.old) }
-    ensures { (store.new ≡ mk_store file.now decl.now store.old (top s work.old)) × (top result work.new ≡ mk_of file.now decl.now (top s work.old)) }
+#[tactic(auto, unfolding(crate::specs::Layout::mk_of, crate::specs::Layout::mk_store))]
+fn make(rules: Rules, store: &mut [u32], work: &mut [u32], s: State) -> State
+    requires { MkNeeds rules.file.now rules.table.now.words store.old (at_work s work.old) }
+    ensures { (store.new ≡ mk_store rules.entry.file.now rules.entry.table.now.words store.old (at_work s work.old)) × (at_work result work.new ≡ mk_of rules.entry.file.now rules.entry.table.now.words (at_work s work.old)) }
 {
     let at = s.frame.at;
     let base = s.frame.depth * Frame::SLOTS;
-    let con = byte(file, at + 2);
-    let k = arity(decl, con);
-    let w = slot(file, work, base, at + 3);
+    let con = byte(rules.file, at + 2);
+    let k = rules.table.arity(con);
+    let w = slot(rules.file, work, base, at + 3);
     let p = (w - Store::FIRST) as usize * Store::CELL;
     store[p] = con as u32;
-    fill(file, store, work, base, at + 4, p + 1, k);
+    fill(rules.file, store, work, base, at + 4, p + 1, k);
     bind(work, s, w, at + 4 + k)
 }
 
-// What follows the node at a place, and where; its fixed fields by the table of marks.
-fn follows(file: &[u8], decl: &[u32; 128], at: usize) -> Then
-    requires { Safe file.now at }
-    ensures { result ≡ then_of file.now decl.now at }
+// What follows a node: the byte where it begins, and the terms that are open there.
+fn follows(rules: Rules, at: usize) -> Passed
+    requires { Safe rules.file.now at }
+    ensures { (result.at ≡ next_of (then_of rules.entry.file.now rules.entry.table.now.words at)) × (result.terms ≡ opens_of (then_of rules.entry.file.now rules.entry.table.now.words at)) }
 {
-    let m = mark(file, at);
-    let row = mark_row(m);
-    let past = at + 2 + row.fields as usize;
+    let m = mark(rules.file, at);
+    let past = at + MARK + usize::from(m.row().fields);
     match m {
-        AT => Then::One(past),
-        MK => Then::One(past + arity(decl, byte(file, at + 2))),
-        CL => Then::One(past + params(decl, byte(file, at + 2))),
-        TL => Then::Leaf(past + params(decl, byte(file, at + 2))),
-        OP => Then::Many(past, byte(file, at + 3)),
-        LK => Then::Many(past, byte(file, at + 3)),
-        BR => Then::One(past),
-        NU => Then::One(past),
-        AR => Then::One(past),
-        IF => Then::Two(past),
-        _ => Then::Leaf(past),
-    }
-}
-
-// The byte where what follows a node begins.
-fn next_of(f: Then) -> usize
-    ensures { result ≡ next_of f }
-{
-    match f {
-        Then::Leaf(next) => next,
-        Then::One(next) => next,
-        Then::Two(next) => next,
-        Then::Many(next, _) => next,
-    }
-}
-
-// How many terms follow a node.
-fn opens(f: Then) -> usize
-    ensures { result ≡ opens_of f }
-{
-    match f {
-        Then::Leaf(_) => 0,
-        Then::One(_) => 1,
-        Then::Two(_) => 2,
-        Then::Many(_, count) => count,
+        Mark::AT => Passed { at: past, terms: 1 },
+        Mark::MK => Passed {
+            at: past + rules.table.arity(byte(rules.file, at + 2)),
+            terms: 1,
+        },
+        Mark::CL => Passed {
+            at: past + rules.table.parameters(byte(rules.file, at + 2)),
+            terms: 1,
+        },
+        Mark::TL => Passed {
+            at: past + rules.table.parameters(byte(rules.file, at + 2)),
+            terms: 0,
+        },
+        Mark::OP => Passed {
+            at: past,
+            terms: byte(rules.file, at + 3),
+        },
+        Mark::LK => Passed {
+            at: past,
+            terms: byte(rules.file, at + 3),
+        },
+        Mark::BR => Passed { at: past, terms: 1 },
+        Mark::NU => Passed { at: past, terms: 1 },
+        Mark::AR => Passed { at: past, terms: 1 },
+        Mark::IF => Passed { at: past, terms: 2 },
+        _ => Passed { at: past, terms: 0 },
     }
 }
 
 // One record passed over: it closes a term, and opens those that follow it.
-fn pass_record(file: &[u8], decl: &[u32; 128], p: Passed) -> Passed
-    requires { (0 < p.terms) × ((next : ℕ) × SkipsMany file.now decl.now p.at p.terms next) }
-    ensures { (result.at ≡ next_of (then_of file.now decl.now p.at)) × (result.terms ≡ (p.terms - 1) + opens_of (then_of file.now decl.now p.at)) }
+fn pass_record(rules: Rules, p: Passed) -> Passed
+    requires { (0 < p.terms) × ((next : ℕ) × SkipsMany rules.file.now rules.table.now.words p.at p.terms next) }
+    ensures { (result.at ≡ next_of (then_of rules.entry.file.now rules.entry.table.now.words p.at)) × (result.terms ≡ (p.terms - 1) + opens_of (then_of rules.entry.file.now rules.entry.table.now.words p.at)) }
 {
-    let f = follows(file, decl, p.at);
-    let at = next_of(f);
-    let terms = p.terms - 1 + opens(f);
-    Passed { at, terms }
+    let f = follows(rules, p.at);
+    Passed {
+        at: f.at,
+        terms: p.terms - 1 + f.terms,
+    }
 }
 
 // The byte after the term at a place: the terms that are open are counted until none is.
-pub(crate) fn skip_term(file: &[u8], decl: &[u32; 128], at: usize) -> usize
-    requires { (next : ℕ) × Skips file.now decl.now at next }
-    ensures { Skips file.now decl.now at result }
+fn skip_term(rules: Rules, at: usize) -> usize
+    requires { (next : ℕ) × Skips rules.file.now rules.table.now.words at next }
+    ensures { Skips rules.entry.file.now rules.entry.table.now.words at result }
 {
-    let mut p = pass_record(file, decl, Passed { at, terms: 1 });
+    let mut p = Passed { at, terms: 1 };
     while 0 < p.terms {
-        p = pass_record(file, decl, p);
+        p = pass_record(rules, p);
     }
     p.at
 }
 
-// The byte after the term at a place, worked out once a run: a word of the work area keeps the place with it.
-fn end_of(file: &[u8], decl: &[u32; 128], work: &mut [u32], at: usize) -> usize
-    requires { EndNeeds file.now decl.now work.old × (0 < at) × ((next : ℕ) × Skips file.now decl.now at next × (next ≤ 4096)) }
-    ensures { Skips file.now decl.now at result × Keeps file.now decl.now work.old work.new }
+// The end of the term at a place, where a word of the work area keeps it.
+#[tactic(auto, unfolding(crate::specs::Skips::kept_at, meaning::specs::Choice::pick))]
+fn kept(work: &[u32], at: usize) -> Option<usize>
+    requires { 1088 + at / 2 < length work.now }
+    ensures { result ≡ kept_at work.now at }
 {
-    let q = Frame::ENDS + at / 2;
-    let known = wide(work[q]);
-    if known / 8192 == at {
-        return known % 8192;
+    let word = work[Frame::ENDS + at / Work::APART] as usize;
+    if word / Work::PLACE == at {
+        return Some(word % Work::PLACE);
     }
-    let next = skip_term(file, decl, at);
-    work[q] = (at * 8192 + next) as u32;
-    next
+    None
 }
 
-// Where the branch of a constructor has its term, or 0.
-fn find_branch(
-    file: &[u8],
-    decl: &[u32; 128],
+// The byte after the term at a place, if it is known: an end is worked out once a run, where it is to be, and a word of the work area keeps the
+// place with it.
+fn end_of<const WORK_OUT: bool>(rules: Rules, work: &mut [u32], at: usize) -> Option<usize>
+    requires { EndNeeds rules.file.now rules.table.now.words work.old × (0 < at) × ((next : ℕ) × Skips rules.file.now rules.table.now.words at next × (next ≤ 4096)) }
+    ensures { EndFound WORK_OUT rules.entry.file.now rules.entry.table.now.words at work.old result work.new }
+{
+    let known = kept(work, at);
+    if known.is_some() || !WORK_OUT {
+        return known;
+    }
+    let next = skip_term(rules, at);
+    work[Frame::ENDS + at / Work::APART] = (at * Work::PLACE + next) as u32;
+    Some(next)
+}
+
+// Where the branch of a constructor has its term, if there is one and the ends before it are known.
+fn find_branch<const WORK_OUT: bool>(
+    rules: Rules,
     work: &mut [u32],
     at: usize,
     count: usize,
     con: usize,
-) -> usize
-    requires { EndNeeds file.now decl.now work.old × ((next : ℕ) × SkipsAll file.now decl.now at count next × (next ≤ 4096)) }
-    ensures { Found file.now decl.now con at count result × Keeps file.now decl.now work.old work.new }
+) -> Option<usize>
+    requires { EndNeeds rules.file.now rules.table.now.words work.old × ((next : ℕ) × SkipsAll rules.file.now rules.table.now.words at count next × (next ≤ 4096)) }
+    ensures { BranchFound WORK_OUT rules.entry.file.now rules.entry.table.now.words con at count work.old result work.new }
 {
     let mut p = at;
-    let mut left = count;
-    while 0 < left {
-        if byte(file, p + 2) == con {
-            return p + 3;
+    for _ in 0..count {
+        if byte(rules.file, p + 2) == con {
+            return Some(p + 3);
         }
-        p = end_of(file, decl, work, p + 3);
-        left -= 1;
+        p = end_of::<WORK_OUT>(rules, work, p + 3)?;
     }
-    0
+    None
 }
 
 // The constructor of a tree word.
+#[tactic(auto, unfolding(crate::specs::Layout::con_of, meaning::specs::Choice::pick))]
 fn constructor(store: &[u32], w: u32) -> usize
     requires { 65536 ≤ w → (w - 65536) * 5 + 5 ≤ length store.now }
     ensures { result ≡ con_of store.now w }
 {
     if w < Store::FIRST {
-        return wide(w);
+        return w as usize;
     }
-    wide(store[wide(w - Store::FIRST) * Store::CELL])
+    store[(w - Store::FIRST) as usize * Store::CELL] as usize
 }
 
 // The branch that was found, with the fields bound, and the credit if there is one.
+#[tactic(auto, unfolding(crate::specs::Layout::opened_of, meaning::specs::Choice::pick))]
 fn opened(
-    decl: &[u32; 128],
+    table: &Table,
     store: &[u32],
     work: &mut [u32],
     s: State,
     w: u32,
     con: usize,
     b: usize,
-    credit: usize,
+    credit: bool,
 ) -> State
-    requires { (s.frame.depth ≤ 31) × (4096 ≤ length work.old) × (con < 64) × (arity_in decl.now con ≤ 4) × (65536 ≤ w → (w - 65536) * 5 + 5 ≤ length store.now) × (65536 ≤ w → s.frame.bound + arity_in decl.now con + credit ≤ 32) × (credit ≤ 1) }
-    ensures { top result work.new ≡ opened_of decl.now store.now (top s work.old) w con b credit }
+    requires { (s.frame.depth ≤ 31) × (4096 ≤ length work.old) × (con < 64) × (arity_in table.now.words con ≤ 4) × (65536 ≤ w → (w - 65536) * 5 + 5 ≤ length store.now) × (65536 ≤ w → s.frame.bound + arity_in table.now.words con + flag credit ≤ 32) }
+    ensures { at_work result work.new ≡ opened_of table.now.words store.now (at_work s work.old) w con b (flag credit) }
 {
     if w < Store::FIRST {
         return go_to(s, b);
     }
-    let k = arity(decl, con);
+    let k = table.arity(con);
     let to = s.frame.depth * Frame::SLOTS + s.frame.bound;
-    let p = wide(w - Store::FIRST) * Store::CELL;
+    let p = (w - Store::FIRST) as usize * Store::CELL;
     load(store, work, p + 1, to, k);
-    let out = State {
+    if credit {
+        work[to + k] = w;
+    }
+    State {
         frame: Frame {
             at: b,
-            depth: s.frame.depth,
-            bound: s.frame.bound + k + credit,
+            bound: s.frame.bound + k + usize::from(credit),
+            ..s.frame
         },
-        most: s.most,
-        number: State::GOING,
-        value: 0,
-    };
-    if credit == 1 {
-        work[to + k] = w;
-        return out;
+        ..s
     }
-    out
 }
 
 // OP and LK: the branch that fits; OP binds a credit too.
-fn take_branch(
-    file: &[u8],
-    decl: &[u32; 128],
+fn take_branch<const WORK_OUT: bool>(
+    rules: Rules,
     store: &[u32],
     work: &mut [u32],
     s: State,
-    credit: usize,
-) -> State
-    requires { OpenNeeds file.now decl.now store.now (top s work.old) credit × (credit ≤ 1) }
-    ensures { Opened file.now decl.now store.now credit (top s work.old) (top result work.new) }
+    credit: bool,
+) -> Option<State>
+    requires { OpenNeeds rules.file.now rules.table.now.words store.now (at_work s work.old) (flag credit) }
+    ensures { Comes WORK_OUT RunEnd.NoBranch (Opened rules.entry.file.now rules.entry.table.now.words store.now (flag credit) (at_work s work.old)) (work.new ≡ work.old) s result work.new }
 {
     let at = s.frame.at;
-    let w = slot(file, work, s.frame.depth * Frame::SLOTS, at + 2);
+    let w = slot(rules.file, work, s.frame.depth * Frame::SLOTS, at + 2);
     let con = constructor(store, w);
-    let b = find_branch(file, decl, work, at + 4, byte(file, at + 3), con);
-    if b == 0 {
-        return finish(s, 31, 0);
-    }
-    opened(decl, store, work, s, w, con, b, credit)
+    let count = byte(rules.file, at + 3);
+    let b = find_branch::<WORK_OUT>(rules, work, at + 4, count, con)?;
+    Some(opened(rules.table, store, work, s, w, con, b, credit))
 }
 
 // IF: the first term if the number is not 0.
-fn choose(file: &[u8], decl: &[u32; 128], work: &mut [u32], s: State) -> State
-    requires { Room 3 file.now (top s work.old) × EndNeeds file.now decl.now work.old × ((next : ℕ) × Skips file.now decl.now (s.frame.at + 3) next × (next ≤ 4096)) }
-    ensures { Chosen file.now decl.now (top s work.old) (top result work.new) }
+fn choose<const WORK_OUT: bool>(rules: Rules, work: &mut [u32], s: State) -> Option<State>
+    requires { Room 3 rules.file.now (at_work s work.old) × EndNeeds rules.file.now rules.table.now.words work.old × ((next : ℕ) × Skips rules.file.now rules.table.now.words (s.frame.at + 3) next × (next ≤ 4096)) }
+    ensures { Comes WORK_OUT RunEnd.NoBranch (Chosen rules.entry.file.now rules.entry.table.now.words (at_work s work.old)) (work.new ≡ work.old) s result work.new }
 {
-    let at = s.frame.at;
-    let v = slot(file, work, s.frame.depth * Frame::SLOTS, at + 2);
-    if v == 0 {
-        let second = end_of(file, decl, work, at + 3);
-        return go_to(s, second);
+    let first = s.frame.at + 3;
+    let v = slot(
+        rules.file,
+        work,
+        s.frame.depth * Frame::SLOTS,
+        s.frame.at + 2,
+    );
+    if v != 0 {
+        return Some(go_to(s, first));
     }
-    go_to(s, at + 3)
+    let second = end_of::<WORK_OUT>(rules, work, first)?;
+    Some(go_to(s, second))
 }
 
-// The credit that a mark's branches bind.
-fn credit(m: usize) -> usize
-    ensures { result ≡ credit_of m }
-{
-    if m == OP {
-        return 1;
-    }
-    0
-}
-
-// One node.
-pub(crate) fn step(
-    file: &[u8],
-    decl: &[u32; 128],
-    store: &mut [u32],
-    work: &mut [u32],
-    s: State,
-) -> State
-    requires { Fit file.now decl.now store.old (top s work.old) }
-    ensures { Steps file.now decl.now store.old (top s work.old) store.new (top result work.new) }
-{
-    let m = mark(file, s.frame.at);
-    match m {
-        GV => give(file, work, s),
-        AT => atom(file, work, s),
-        MK => make(file, decl, store, work, s),
-        CL => call(file, decl, work, s),
-        TL => tail(file, decl, work, s),
-        OP | LK => take_branch(file, decl, store, work, s, credit(m)),
-        NU => number(file, work, s),
-        AR => arith(file, work, s),
-        IF => choose(file, decl, work, s),
-        _ => s,
-    }
-}
-
-// The place in the table of a node's mark by how far its second letter is from its first, which is another for each of the ten nodes. Each of the
+// A node's mark by how far its second letter is from its first, which is another for each of the ten nodes. Each of the
 // 32 distances has its arm, so that none is tested for being too large.
-fn by_distance(distance: usize) -> usize
-    ensures { result ≡ by_distance distance }
+#[tactic(auto, unfolding(crate::specs::Steps::by_distance, meaning::specs::Choice::pick))]
+fn by_distance(distance: usize) -> Mark
+    ensures { place_of result ≡ by_distance distance }
 {
     match distance {
-        0 => OTHER,
-        1 => OP,
-        2 => OTHER,
-        3 => OTHER,
-        4 => OTHER,
-        5 => OTHER,
-        6 => OTHER,
-        7 => NU,
-        8 => OTHER,
-        9 => CL,
-        10 => OTHER,
-        11 => OTHER,
-        12 => OTHER,
-        13 => OTHER,
-        14 => OTHER,
-        15 => GV,
-        16 => OTHER,
-        17 => AR,
-        18 => OTHER,
-        19 => AT,
-        20 => OTHER,
-        21 => OTHER,
-        22 => OTHER,
-        23 => OTHER,
-        24 => TL,
-        25 => OTHER,
-        26 => OTHER,
-        27 => OTHER,
-        28 => OTHER,
-        29 => IF,
-        30 => MK,
-        31 => LK,
-        _ => OTHER,
+        0 => Mark::Other,
+        1 => Mark::OP,
+        2 => Mark::Other,
+        3 => Mark::Other,
+        4 => Mark::Other,
+        5 => Mark::Other,
+        6 => Mark::Other,
+        7 => Mark::NU,
+        8 => Mark::Other,
+        9 => Mark::CL,
+        10 => Mark::Other,
+        11 => Mark::Other,
+        12 => Mark::Other,
+        13 => Mark::Other,
+        14 => Mark::Other,
+        15 => Mark::GV,
+        16 => Mark::Other,
+        17 => Mark::AR,
+        18 => Mark::Other,
+        19 => Mark::AT,
+        20 => Mark::Other,
+        21 => Mark::Other,
+        22 => Mark::Other,
+        23 => Mark::Other,
+        24 => Mark::TL,
+        25 => Mark::Other,
+        26 => Mark::Other,
+        27 => Mark::Other,
+        28 => Mark::Other,
+        29 => Mark::IF,
+        30 => Mark::MK,
+        31 => Mark::LK,
+        _ => Mark::Other,
     }
 }
 
-// The place in the table of the mark of the node at a place.
-fn node_mark(file: &[u8], at: usize) -> usize
+// The mark of the node at a place.
+fn node_mark(file: &[u8], at: usize) -> Mark
     requires { (at + 2 ≤ length file.now) × Node (mark_at file.now at) }
-    ensures { result ≡ find_mark (mark_at file.now at) }
+    ensures { result ≡ mark_of (mark_at file.now at) }
 {
     by_distance((byte(file, at + 1) + 256 - byte(file, at)) % 32)
 }
 
-// The word that keeps the end of the term at a place, if it is known.
-fn kept(work: &[u32], at: usize) -> usize
-    requires { 1088 + at / 2 < length work.now }
-    ensures { result ≡ slice_index work.now (1088 + at / 2) }
-{
-    wide(work[Frame::ENDS + at / 2])
-}
-
-// Where the branch of a constructor has its term, or 0 where there is none or an end on the way is not known.
-fn known_branch(
-    file: &[u8],
-    decl: &[u32; 128],
-    work: &[u32],
-    at: usize,
-    count: usize,
-    con: usize,
-) -> usize
-    requires { EndNeeds file.now decl.now work.now × ((next : ℕ) × SkipsAll file.now decl.now at count next) }
-    ensures { (result ≢ 0) → Found file.now decl.now con at count result }
-{
-    let mut p = at;
-    let mut left = count;
-    while 0 < left {
-        if byte(file, p + 2) == con {
-            return p + 3;
-        }
-        let known = kept(work, p + 3);
-        if known / 8192 != p + 3 {
-            return 0;
-        }
-        p = known % 8192;
-        left -= 1;
-    }
-    0
-}
-
-// OP and LK by the ends that are known: the branch that fits, or an end.
-fn known_take(
-    file: &[u8],
-    decl: &[u32; 128],
-    store: &[u32],
-    work: &mut [u32],
-    s: State,
-    credit: usize,
-) -> State
-    requires { OpenNeeds file.now decl.now store.now (top s work.old) credit × (credit ≤ 1) }
-    ensures { (result.number ≡ 99 → Opened file.now decl.now store.now credit (top s work.old) (top result work.new)) × ((result.number ≢ 99) → work.new ≡ work.old) }
-{
-    let at = s.frame.at;
-    let w = slot(file, work, s.frame.depth * Frame::SLOTS, at + 2);
-    let con = constructor(store, w);
-    let b = known_branch(file, decl, work, at + 4, byte(file, at + 3), con);
-    if b == 0 {
-        return finish(s, 31, 0);
-    }
-    opened(decl, store, work, s, w, con, b, credit)
-}
-
-// IF by the ends that are known: the term chosen, or an end.
-fn known_choose(file: &[u8], decl: &[u32; 128], work: &[u32], s: State) -> State
-    requires { Room 3 file.now (top s work.now) × EndNeeds file.now decl.now work.now × ((next : ℕ) × Skips file.now decl.now (s.frame.at + 3) next × (next ≤ 4096)) }
-    ensures { result.number ≡ 99 → Chosen file.now decl.now (top s work.now) (top result work.now) }
-{
-    let at = s.frame.at;
-    let v = slot(file, work, s.frame.depth * Frame::SLOTS, at + 2);
-    if v != 0 {
-        return go_to(s, at + 3);
-    }
-    let known = kept(work, at + 3);
-    if known / 8192 != at + 3 {
-        return finish(s, 31, 0);
-    }
-    go_to(s, known % 8192)
-}
-
-// One node by the ends that are known; a state that has ended stands for a node that is left as it was.
-fn known_step(
-    file: &[u8],
-    decl: &[u32; 128],
+// One node, and the state after it. There is none where the node ends the run, or where an end of a term that it needs is not known and not to be
+// worked out, in which case it is left as it was.
+fn step<const WORK_OUT: bool>(
+    rules: Rules,
     store: &mut [u32],
     work: &mut [u32],
     s: State,
-) -> State
-    requires { Fit file.now decl.now store.old (top s work.old) }
-    ensures { Tried file.now decl.now store.old (top s work.old) store.new (top result work.new) }
+) -> Option<State>
+    requires { Fit rules.file.now rules.table.now.words store.old (at_work s work.old) }
+    ensures { Stepped WORK_OUT rules.entry.file.now rules.entry.table.now.words store.old s work.old result store.new work.new }
 {
-    let m = node_mark(file, s.frame.at);
-    match m {
-        GV => give(file, work, s),
-        AT => atom(file, work, s),
-        MK => make(file, decl, store, work, s),
-        CL => call(file, decl, work, s),
-        TL => tail(file, decl, work, s),
-        OP | LK => known_take(file, decl, store, work, s, credit(m)),
-        NU => number(file, work, s),
-        AR => arith(file, work, s),
-        IF => known_choose(file, decl, work, s),
-        _ => finish(s, 31, 0),
+    match node_mark(rules.file, s.frame.at) {
+        Mark::GV => give(rules.file, work, s),
+        Mark::AT => Some(atom(rules.file, work, s)),
+        Mark::MK => Some(make(rules, store, work, s)),
+        Mark::CL => call(rules, work, s),
+        Mark::TL => Some(tail(rules, work, s)),
+        Mark::OP => take_branch::<WORK_OUT>(rules, store, work, s, true),
+        Mark::LK => take_branch::<WORK_OUT>(rules, store, work, s, false),
+        Mark::NU => Some(number(rules.file, work, s)),
+        Mark::AR => arith(rules.file, work, s),
+        Mark::IF => choose::<WORK_OUT>(rules, work, s),
+        _ => Some(s),
+    }
+}
+
+// How the node ends the run that no state follows.
+fn ending(file: &[u8], work: &[u32], s: State) -> RunEnd
+    requires { Room 3 file.now (at_work s work.now) × Node (mark_at file.now s.frame.at) }
+    ensures { result ≡ ending file.now (at_work s work.now) }
+{
+    match node_mark(file, s.frame.at) {
+        Mark::GV => RunEnd::Done(slot(file, work, s.frame.depth * Frame::SLOTS, s.frame.at + 2)),
+        Mark::CL => RunEnd::NoFrame,
+        Mark::AR => RunEnd::OutOfRange,
+        _ => RunEnd::NoBranch,
     }
 }
 
 // The place of an end: none where the run is done.
-fn place_of(s: State) -> usize
-    ensures { result ≡ place_of s }
+#[tactic(auto, using(crate::proofs::step::Tries::place_undone), unfolding(crate::specs::Steps::place_of, meaning::specs::Choice::pick))]
+fn place(end: RunEnd, s: State) -> usize
+    ensures { result ≡ place_at (ended (on s) (number (as_end end)) (value_of end)) }
 {
-    if s.number == 0 {
-        return 0;
+    match end {
+        RunEnd::Done(_) => 0,
+        _ => s.frame.at,
     }
-    s.frame.at
 }
 
 // The first state: function 0's body with the arguments as its slots.
-pub(crate) fn first_state(decl: &[u32; 128], args: &[u32], work: &mut [u32]) -> State
+#[tactic(auto, unfolding(crate::specs::Layout::first_of))]
+fn first_state(table: &Table, args: &[u32], work: &mut [u32]) -> State
     requires { (length args.now ≤ 32) × (4096 ≤ length work.old) }
-    ensures { top result work.new ≡ first_of decl.now args.now work.old }
+    ensures { at_work result work.new ≡ first_of table.now.words args.now work.old }
 {
     State {
-        frame: Frame::fresh(body(decl, 0), args, work),
+        frame: Frame::fresh(table.body(0), args, work),
         most: 1,
-        number: State::GOING,
-        value: 0,
     }
 }
 
 // At most so many nodes by the ends that are known: up to the first that ends the run or needs an end that is not known.
-fn known_steps(
-    file: &[u8],
-    decl: &[u32; 128],
-    store: &mut [u32],
-    work: &mut [u32],
-    s: State,
-    limit: u32,
-) -> Pause
-    requires { Fit file.now decl.now store.old (top s work.old) }
-    ensures { (result.left ≤ limit) × Reached file.now decl.now store.old (top s work.old) limit result.left store.new (top result.state work.new) × (drop 4096 work.new ≡ drop 4096 work.old) }
+fn known_steps(rules: Rules, store: &mut [u32], work: &mut [u32], s: State, limit: u32) -> Pause
+    requires { Fit rules.file.now rules.table.now.words store.old (at_work s work.old) }
+    ensures { (result.left ≤ limit) × Reached rules.entry.file.now rules.entry.table.now.words store.old (at_work s work.old) limit result.left store.new (at_work result.state work.new) × (drop 4096 work.new ≡ drop 4096 work.old) }
 {
-    let mut cur = go_to(s, s.frame.at);
+    let mut cur = s;
     let mut left = limit;
+    // Counted down by hand: counting up to the limit, calls and arithmetic took a tenth longer.
     while 0 < left {
-        let next = known_step(file, decl, store, work, cur);
-        if next.number != State::GOING {
-            return Pause { state: cur, left };
+        match step::<false>(rules, store, work, cur) {
+            Some(next) => cur = next,
+            None => return Pause { state: cur, left },
         }
-        cur = next;
         left -= 1;
     }
     Pause { state: cur, left }
 }
 
 // At most so many nodes.
-pub(crate) fn go(
-    file: &[u8],
-    decl: &[u32; 128],
-    store: &mut [u32],
-    work: &mut [u32],
-    s: State,
-    limit: u32,
-) -> Ran
-    requires { Fit file.now decl.now store.old (top s work.old) }
-    ensures { ((f : Fit file.now decl.now store.old (top s work.old)) → answer_of result store.new ≡ run f.file limit f.st 0 s.most) × (drop 4096 work.new ≡ drop 4096 work.old) }
+fn go(rules: Rules, store: &mut [u32], work: &mut [u32], s: State, limit: u32) -> Ran
+    requires { Fit rules.file.now rules.table.now.words store.old (at_work s work.old) }
+    ensures { ((f : Fit rules.entry.file.now rules.entry.table.now.words store.old (at_work s work.old)) → answer_of result store.new ≡ run f.file limit f.st 0 s.most) × (drop 4096 work.new ≡ drop 4096 work.old) }
 {
-    let mut t = known_steps(file, decl, store, work, s, limit);
+    let mut t = known_steps(rules, store, work, s, limit);
     while 0 < t.left {
-        let cur = step(file, decl, store, work, t.state);
         let left = t.left - 1;
-        if cur.number != State::GOING {
-            return Ran {
-                number: cur.number,
-                value: cur.value,
-                steps: limit - left,
-                place: place_of(cur) as u32,
-                frames: cur.most as u32,
-            };
+        match step::<true>(rules, store, work, t.state) {
+            Some(next) => t = known_steps(rules, store, work, next, left),
+            None => {
+                let end = ending(rules.file, work, t.state);
+                return Ran {
+                    end,
+                    place: place(end, t.state) as u32,
+                    steps: limit - left,
+                    frames: t.state.most as u32,
+                };
+            }
         }
-        t = known_steps(file, decl, store, work, cur, left);
     }
     Ran {
-        number: 32,
-        value: 0,
-        steps: limit,
+        end: RunEnd::BudgetSpent,
         place: t.state.frame.at as u32,
+        steps: limit,
         frames: t.state.most as u32,
     }
 }
 
 // At most so many nodes of function 0.
 pub(crate) fn execute(
-    file: &[u8],
-    decl: &[u32; 128],
+    rules: Rules,
     args: &[u32],
     store: &mut [u32],
     work: &mut [u32],
     limit: u32,
 ) -> Ran
-    requires { Begun file.now decl.now args.now store.old work.old }
-    ensures { ((b : Begun file.now decl.now args.now store.old work.old) → answer_of result store.new ≡ run b.file limit (begins b.file args.now store.old) 0 1) × (drop 4096 work.new ≡ drop 4096 work.old) }
+    requires { Begun rules.file.now rules.table.now.words args.now store.old work.old }
+    ensures { ((b : Begun rules.entry.file.now rules.entry.table.now.words args.now store.old work.old) → answer_of result store.new ≡ run b.file limit (begins b.file args.now store.old) 0 1) × (drop 4096 work.new ≡ drop 4096 work.old) }
 {
-    let s = first_state(decl, args, work);
-    go(file, decl, store, work, s, limit)
+    let s = first_state(rules.table, args, work);
+    go(rules, store, work, s, limit)
 }

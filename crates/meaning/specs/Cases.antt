@@ -1,13 +1,8 @@
 -- Document 01's proved cases, P1 to P14, P11's start with budget 0 (M-103), and the ends of AR's range (M-101): one table. The theorem over it,
 -- `all_cases`, stands in proofs/Cases. Assumes nothing.
 use Rattle.std.specs.Prelude.{ℕ, List, [], ◌∷◌, ◌++◌, set, drop, take, replicate}
-use Rattle.meaning.specs.declared.Verdict.{Verdict}
-use Rattle.meaning.specs.declared.Verdict.TheVariants as verdicts
-use Rattle.meaning.specs.declared.End.{End}
-use Rattle.meaning.specs.declared.End.TheVariants as ends
-use Rattle.meaning.specs.declared.Answer.{Answer}
 use Rattle.meaning.specs.Machine.{Store}
-use Rattle.meaning.specs.Answers.{verdict_of, run_of}
+use Rattle.meaning.specs.Answers.{verdict_of, run_of, Answer, End, Verdict}
 
 abbrev pub reversal : List ℕ
 reversal =
@@ -64,31 +59,31 @@ gives a t = record { asked = a; expected = t }
 abbrev pub cases : List Case
 cases =
     -- P1 to P10
-    gives (checked reversal) (verdict (verdicts.Flat 1 1))
-    ∷ gives (checked (set reversal 39 0x03)) (verdict (verdicts.Refused 9 39))
-    ∷ gives (checked (set reversal 33 0x03)) (verdict (verdicts.Refused 8 33))
-    ∷ gives (checked (set reversal 32 0x05)) (verdict (verdicts.Refused 7 32))
-    ∷ gives (checked (set reversal 25 0x00)) (verdict (verdicts.Refused 9 25))
-    ∷ gives (checked (set reversal 12 0x01)) (verdict (verdicts.Refused 8 25))
-    ∷ gives (checked (set reversal 28 0x00)) (verdict (verdicts.Refused 12 28))
-    ∷ gives (checked (take 41 reversal)) (verdict (verdicts.Refused 2 41))
-    ∷ gives (checked []) (verdict (verdicts.Refused 2 0))
-    ∷ gives (checked (reversal ++ (0x00 ∷ []))) (verdict (verdicts.Refused 6 42))
-    ∷ gives (checked left_over) (verdict (verdicts.Refused 11 8))
+    gives (checked reversal) (verdict (Verdict.Flat 1 1))
+    ∷ gives (checked (set reversal 39 0x03)) (verdict (Verdict.Refused 9 39))
+    ∷ gives (checked (set reversal 33 0x03)) (verdict (Verdict.Refused 8 33))
+    ∷ gives (checked (set reversal 32 0x05)) (verdict (Verdict.Refused 7 32))
+    ∷ gives (checked (set reversal 25 0x00)) (verdict (Verdict.Refused 9 25))
+    ∷ gives (checked (set reversal 12 0x01)) (verdict (Verdict.Refused 8 25))
+    ∷ gives (checked (set reversal 28 0x00)) (verdict (Verdict.Refused 12 28))
+    ∷ gives (checked (take 41 reversal)) (verdict (Verdict.Refused 2 41))
+    ∷ gives (checked []) (verdict (Verdict.Refused 2 0))
+    ∷ gives (checked (reversal ++ (0x00 ∷ []))) (verdict (Verdict.Refused 6 42))
+    ∷ gives (checked left_over) (verdict (Verdict.Refused 11 8))
     -- P11, with either budget, and P12
-    ∷ gives (run_on reversal (65536 ∷ 0 ∷ []) two_cells 8) (answers ends.Done 65537 8 0 1 reversed_cells)
-    ∷ gives (run_on reversal (65536 ∷ 0 ∷ []) two_cells 7) (answers ends.BudgetSpent 0 7 23 1 reversed_cells)
-    ∷ gives (run_on reversal (65536 ∷ 65536 ∷ []) two_cells 8) (answers (ends.Refused 23) 0 0 0 0 two_cells)
+    ∷ gives (run_on reversal (65536 ∷ 0 ∷ []) two_cells 8) (answers End.Done 65537 8 0 1 reversed_cells)
+    ∷ gives (run_on reversal (65536 ∷ 0 ∷ []) two_cells 7) (answers End.BudgetSpent 0 7 23 1 reversed_cells)
+    ∷ gives (run_on reversal (65536 ∷ 65536 ∷ []) two_cells 8) (answers (End.Refused 23) 0 0 0 0 two_cells)
     -- P13 and P14
-    ∷ gives (checked one_branch) (verdict (verdicts.Flat 1 1))
-    ∷ gives (run_on one_branch (0 ∷ 0 ∷ []) [] 8) (answers ends.NoBranch 0 1 16 1 [])
-    ∷ gives (checked waiting) (verdict (verdicts.Stacked 1))
-    ∷ gives (run_on waiting [] [] 40) (answers ends.NoFrame 0 32 6 32 [])
+    ∷ gives (checked one_branch) (verdict (Verdict.Flat 1 1))
+    ∷ gives (run_on one_branch (0 ∷ 0 ∷ []) [] 8) (answers End.NoBranch 0 1 16 1 [])
+    ∷ gives (checked waiting) (verdict (Verdict.Stacked 1))
+    ∷ gives (run_on waiting [] [] 40) (answers End.NoFrame 0 32 6 32 [])
     -- P11's start with budget 0: no node begins
-    ∷ gives (run_on reversal (65536 ∷ 0 ∷ []) two_cells 0) (answers ends.BudgetSpent 0 0 16 1 two_cells)
+    ∷ gives (run_on reversal (65536 ∷ 0 ∷ []) two_cells 0) (answers End.BudgetSpent 0 0 16 1 two_cells)
     -- the ends of the range: 65,535 + 0, 65,535 + 1, 0 - 0, 0 - 1
-    ∷ gives (run_on (operating 0) (65535 ∷ 0 ∷ []) [] 8) (answers ends.Done 65535 2 0 1 [])
-    ∷ gives (run_on (operating 0) (65535 ∷ 1 ∷ []) [] 8) (answers ends.OutOfRange 0 1 8 1 [])
-    ∷ gives (run_on (operating 1) (0 ∷ 0 ∷ []) [] 8) (answers ends.Done 0 2 0 1 [])
-    ∷ gives (run_on (operating 1) (0 ∷ 1 ∷ []) [] 8) (answers ends.OutOfRange 0 1 8 1 [])
+    ∷ gives (run_on (operating 0) (65535 ∷ 0 ∷ []) [] 8) (answers End.Done 65535 2 0 1 [])
+    ∷ gives (run_on (operating 0) (65535 ∷ 1 ∷ []) [] 8) (answers End.OutOfRange 0 1 8 1 [])
+    ∷ gives (run_on (operating 1) (0 ∷ 0 ∷ []) [] 8) (answers End.Done 0 2 0 1 [])
+    ∷ gives (run_on (operating 1) (0 ∷ 1 ∷ []) [] 8) (answers End.OutOfRange 0 1 8 1 [])
     ∷ []

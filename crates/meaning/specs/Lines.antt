@@ -5,12 +5,9 @@ use Prim.Native.Char.{code}
 use Prim.Native.String.{String}
 use Prim.Native.String as text
 use Rattle.std.proofs.Math.Option.{Option, none, some}
-use Rattle.meaning.specs.declared.Verdict.{Verdict}
-use Rattle.meaning.specs.declared.Verdict.TheVariants as verdict
-use Rattle.meaning.specs.declared.Answer.{Answer}
 use Rattle.meaning.specs.Choice.{pick}
 use Rattle.meaning.specs.Machine.{Store}
-use Rattle.meaning.specs.Answers.{number, verdict_of, run_of}
+use Rattle.meaning.specs.Answers.{number, verdict_of, run_of, Answer, Verdict}
 use Rattle.meaning.specs.Cases.{Asked, checked, run_on, Told, answer}
 use Rattle.meaning.specs.Cases as cases
 
@@ -35,9 +32,9 @@ spaced (t ∷ (u ∷ rest)) = t ++ 32 ∷ spaced (u ∷ rest)
 
 -- "prints one line, `accepted flat 1 1` (depth, functions reached); a stacked file prints `accepted stacked` and the functions reached; a refusal prints `refused`, number, `at`, place"
 unfoldable pub verdict_line : Verdict → List ℕ
-verdict_line (verdict.Flat d r) = spaced (ascii "accepted" ∷ ascii "flat" ∷ digits d ∷ digits r ∷ [])
-verdict_line (verdict.Stacked r) = spaced (ascii "accepted" ∷ ascii "stacked" ∷ digits r ∷ [])
-verdict_line (verdict.Refused n p) = spaced (ascii "refused" ∷ digits n ∷ ascii "at" ∷ digits p ∷ [])
+verdict_line (Verdict.Flat d r) = spaced (ascii "accepted" ∷ ascii "flat" ∷ digits d ∷ digits r ∷ [])
+verdict_line (Verdict.Stacked r) = spaced (ascii "accepted" ∷ ascii "stacked" ∷ digits r ∷ [])
+verdict_line (Verdict.Refused n p) = spaced (ascii "refused" ∷ digits n ∷ ascii "at" ∷ digits p ∷ [])
 
 -- "It prints the five answer fields in the order above, with single spaces": "answer number, value, steps, place, greatest number of frames"
 unfoldable pub answer_line : Answer → List ℕ

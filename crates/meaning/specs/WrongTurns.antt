@@ -1,8 +1,7 @@
 -- Document 01's wrong turns to close off, each by a file or a start that a wrong definition would answer otherwise, and a run cut short: one
 -- table. The theorem over it, `all_turns`, stands in proofs/WrongTurns. Assumes nothing.
+use Rattle.meaning.specs.Answers.{End, Verdict}
 use Rattle.std.specs.Prelude.{ℕ, List, [], ◌∷◌, ◌++◌, drop, take}
-use Rattle.meaning.specs.declared.Verdict.TheVariants as verdicts
-use Rattle.meaning.specs.declared.End.TheVariants as ends
 use Rattle.meaning.specs.Cases.{reversal, left_over, two_cells, checked, run_on, verdict, answers, Case, gives}
 
 -- function 0 lends its slot and hands it over in one call, the lent argument first
@@ -41,15 +40,15 @@ other_order = take 20 reversal ++ (take 14 (drop 26 reversal) ++ (take 6 (drop 2
 
 abbrev pub turns : List Case
 turns =
-    gives (checked lent_first) (verdict (verdicts.Refused 9 17))
-    ∷ gives (checked look_at_owned) (verdict (verdicts.Refused 8 12))
-    ∷ gives (checked call_and_back) (verdict (verdicts.Stacked 2))
-    ∷ gives (run_on owned_and_lent (65536 ∷ 65537 ∷ []) two_cells 8) (answers (ends.Refused 23) 0 0 0 0 two_cells)
-    ∷ gives (checked two_branches) (verdict (verdicts.Flat 1 1))
+    gives (checked lent_first) (verdict (Verdict.Refused 9 17))
+    ∷ gives (checked look_at_owned) (verdict (Verdict.Refused 8 12))
+    ∷ gives (checked call_and_back) (verdict (Verdict.Stacked 2))
+    ∷ gives (run_on owned_and_lent (65536 ∷ 65537 ∷ []) two_cells 8) (answers (End.Refused 23) 0 0 0 0 two_cells)
+    ∷ gives (checked two_branches) (verdict (Verdict.Flat 1 1))
     -- a fault of 7 to 12 does not come before a later one of 2 to 6
-    ∷ gives (checked (take 12 left_over)) (verdict (verdicts.Refused 2 12))
+    ∷ gives (checked (take 12 left_over)) (verdict (Verdict.Refused 2 12))
     -- P11 with budget 1: the first step moves no cell
-    ∷ gives (run_on reversal (65536 ∷ 0 ∷ []) two_cells 1) (answers ends.BudgetSpent 0 1 29 1 two_cells)
+    ∷ gives (run_on reversal (65536 ∷ 0 ∷ []) two_cells 1) (answers End.BudgetSpent 0 1 29 1 two_cells)
     -- a branch starts from the slots before the list, not from those that the branch before it bound
-    ∷ gives (checked other_order) (verdict (verdicts.Flat 1 1))
+    ∷ gives (checked other_order) (verdict (Verdict.Flat 1 1))
     ∷ []

@@ -4,7 +4,7 @@
 ghost use Rattle.std.specs.Prelude.{◌≡◌, ◌<◌, ◌≤◌};
 ghost use Rattle.meaning.specs.Marks.{place_of, row_at, size_at, binds_at, find_mark};
 ghost use Rattle.meaning.specs.Keys.{key_of, by_key};
-ghost use Rattle.meaning.specs.Answers.{fault_number};
+ghost use Rattle.meaning.specs.Answers.{fault_number, number, as_end, value_of};
 
 // The mark of a record, in the order of the table of marks; or of none.
 #[derive(Clone, Copy, Debug, PartialEq, Eq)]
@@ -116,41 +116,6 @@ const MARKS: [MarkRow; 15] = [
 // The bytes of a mark.
 pub const MARK: usize = 2;
 
-// The place of a mark in the table; 15 stands for no mark of the table, and 16 for a file that ends within the mark.
-pub const CN: usize = 0;
-
-pub const FN: usize = 1;
-
-pub const BD: usize = 2;
-
-pub const ND: usize = 3;
-
-pub const GV: usize = 4;
-
-pub const AT: usize = 5;
-
-pub const MK: usize = 6;
-
-pub const CL: usize = 7;
-
-pub const TL: usize = 8;
-
-pub const OP: usize = 9;
-
-pub const LK: usize = 10;
-
-pub const BR: usize = 11;
-
-pub const NU: usize = 12;
-
-pub const AR: usize = 13;
-
-pub const IF: usize = 14;
-
-pub const OTHER: usize = 15;
-
-pub const EARLY: usize = 16;
-
 // The limits of a file: bytes, constructors, functions, slots and nodes on any path, branches in a list, and what one record may say.
 pub const BYTES: usize = 4096;
 
@@ -215,7 +180,8 @@ pub fn size(i: usize) -> usize
     MARK + usize::from(mark_row(i).fields)
 }
 
-// A mark's key is below 64, and another for each mark of the table: its first letter and four times its second.
+// A mark's key is below 64, and another for each mark of the table: its first letter and four times its second. A constant's value may call no
+// function, so each is written out.
 const CN_KEY: u16 = (MARKS[0].mark / 256 + MARKS[0].mark % 256 * 4) % 64;
 
 const FN_KEY: u16 = (MARKS[1].mark / 256 + MARKS[1].mark % 256 * 4) % 64;
@@ -377,7 +343,7 @@ impl Fault {
 #[derive(Clone, Copy, Debug, PartialEq, Eq)]
 pub struct Refusal {
     pub fault: Fault,
-    pub place: u32,
+    pub place: usize,
 }
 
 // The shape of an accepted file: flat with its depth, or stacked, and how many functions are reached.
@@ -398,41 +364,36 @@ pub enum RunEnd {
     OutOfRange,
 }
 
+impl RunEnd {
+    // The end's number in document 01's table.
+    pub fn number(self) -> u32
+        ensures { result ≡ number (as_end self) }
+    {
+        match self {
+            RunEnd::Done(_) => 0,
+            RunEnd::NoBranch => 31,
+            RunEnd::BudgetSpent => 32,
+            RunEnd::NoFrame => 33,
+            RunEnd::OutOfRange => 34,
+        }
+    }
+
+    // The value of a run that is done, 0 at another end.
+    pub fn value(self) -> u32
+        ensures { result ≡ value_of self }
+    {
+        match self {
+            RunEnd::Done(value) => value,
+            _ => 0,
+        }
+    }
+}
+
 // A run that was made: its end and the place of it, 0 where it is done; its steps, and the greatest number of frames.
 #[derive(Clone, Copy, Debug, PartialEq, Eq)]
 pub struct Ran {
     pub end: RunEnd,
     pub place: u32,
     pub steps: u32,
-    pub frames: u32,
-}
-
-// The checker's verdict: flat with depth and functions reached, stacked with functions reached, or refused by a number at a place.
-#[derive(Clone, Copy, Debug, PartialEq, Eq)]
-pub enum Verdict {
-    Flat(u32, u32),
-    Stacked(u32),
-    Refused(u32, u32),
-}
-
-// How a run ends: with a value, by a refusal's number, with no branch that fits, with the budget spent, for want of a frame, or at a sum or a
-// difference outside 0..65,535.
-#[derive(Clone, Copy, Debug, PartialEq, Eq)]
-pub enum End {
-    Done,
-    Refused(u32),
-    NoBranch,
-    BudgetSpent,
-    NoFrame,
-    OutOfRange,
-}
-
-// The answer of a run.
-#[derive(Clone, Copy, Debug, PartialEq, Eq)]
-pub struct Answer {
-    pub end: End,
-    pub value: u32,
-    pub steps: u32,
-    pub place: u32,
     pub frames: u32,
 }

@@ -1,183 +1,124 @@
--- What one run more does to a count, a greatest, a least, and a count within a bound. Assumes nothing.
-use Prim.Native.Nat.{ℕ, zero, suc, ◌+◌, ◌-◌, ◌≤◌, ◌<◌, max, min}
-use mathlib.Core.Path.{◌≡◌, refl, sym, ap, ◌∙◌}
-use mathlib.Core.Bool.{Bool, true, false}
+-- The counts, the greatest, the least and the table of answer numbers in the library's words. Assumes nothing.
+use Prim.Native.Nat.{ℕ, zero, suc, ◌+◌, max, min}
+use mathlib.Core.Path.{◌≡◌, refl, sym, ap, subst, ◌∙◌}
+use mathlib.Core.Bool.{Bool, true, false, cond, ◌&&◌, ◌||◌}
 use mathlib.Core.List.{List, [], ◌∷◌, map}
 use native.Mathlib.Omega.{arith}
 use borrow.Author.Tests.{eq-eqb, ne_eqb}
-use mathlib.Core.Path.{subst}
-use lib.ListN.{length, get_or, set, drop, replicate, drop_of_length-le, get_or-eq_default}
+use Rattle.std.proofs.lemmas.Bool.{eqb-true, false≢true}
+use lib.ListN.{length, drop, drop_of_length-le}
 use lib.Seq.{drop-cons}
+use denote.Param.Members.{Mut}
+use Rattle.std.specs.Iterator.{ActsAs}
+use Rattle.std.specs.Array.{IsMapOf, MapsFrom}
+use Rattle.std.proofs.Common.{Option}
+use Rattle.std.specs.Option.{option_map}
+use Rattle.std.proofs.lemmas.Iterator.Adapters.{option_map_id}
 use lib.Dec.{leb, eqb}
+use Rattle.std.specs.List.{list_all, list_any, count_by, filter, reduce, fold}
+use Rattle.std.specs.Option.{unwrap_or}
+use Rattle.std.proofs.lemmas.List.Sums.{length-filter}
+use Rattle.std.proofs.lemmas.List.{length-map}
+use Rattle.std.proofs.lemmas.List.Recursion.{is_count_by, same_from_clauses}
 use Rattle.meaning.specs.Choice.{pick}
-use Rattle.month.specs.Month.{Run, run, runs_of, numbers, among, known, count, ended, steps_of, frames_of, highest, lowest, within, those}
-use Rattle.month.proofs.Words.{next_run, no_run}
+use Rattle.meaning.specs.Derivation.{here}
+use Rattle.month.specs.declared.Run.{Run}
+use Rattle.month.specs.Month.{numbers, among, known, count, those, ended, steps_of, highest, greatest, lowest, least, within}
+use Rattle.month.proofs.Tenths.{greatest_above}
 
-pub count_next : (n had : ℕ) (r : Run) (rest : List Run) → had + count n (r ∷ rest) ≡ pick (eqb r.number n) (suc had) had + count n rest
-unfolding count pick
-count_next n had r rest = go (eqb r.number n)
-  where
-    go : (b : Bool) → had + pick b (suc (count n rest)) (count n rest) ≡ pick b (suc had) had + count n rest
-    go true = omega arith
-    go false = refl
+pick_cond : {A : Type 0} (b : Bool) (x y : A) → pick b x y ≡ cond b x y
+unfolding pick
+pick_cond true x y = refl
+pick_cond false x y = refl
 
-pub steps_next : (from : ℕ) (r : Run) (rest : List Run) → highest from (steps_of (r ∷ rest)) ≡ highest (pick (eqb r.number 0) (max from r.steps) from) (steps_of rest)
-unfolding steps_of ended those pick highest
-steps_next from r rest = go (eqb r.number 0)
-  where
-    go : (b : Bool) → highest from (map (λ x. x.steps) (pick b (r ∷ ended rest) (ended rest))) ≡ highest (pick b (max from r.steps) from) (map (λ x. x.steps) (ended rest))
-    go true = refl
-    go false = refl
+pick_more : (b : Bool) (n : ℕ) → pick b (suc n) n ≡ cond b (1 + n) n
+unfolding pick
+pick_more true n = omega arith
+pick_more false n = refl
 
-pub frames_next : (from : ℕ) (r : Run) (rest : List Run) → highest from (frames_of (r ∷ rest)) ≡ highest (pick (eqb r.number 0) (max from r.frames) from) (frames_of rest)
-unfolding frames_of ended those pick highest
-frames_next from r rest = go (eqb r.number 0)
-  where
-    go : (b : Bool) → highest from (map (λ x. x.frames) (pick b (r ∷ ended rest) (ended rest))) ≡ highest (pick b (max from r.frames) from) (map (λ x. x.frames) (ended rest))
-    go true = refl
-    go false = refl
+pick_or : (b t : Bool) → pick b true t ≡ (b || t)
+unfolding pick
+pick_or true t = refl
+pick_or false t = refl
 
-pub least_next : (from : ℕ) (r : Run) (rest : List Run) → lowest from (steps_of (r ∷ rest)) ≡ lowest (pick (eqb r.number 0) (min from r.steps) from) (steps_of rest)
-unfolding steps_of ended those pick lowest
-least_next from r rest = go (eqb r.number 0)
-  where
-    go : (b : Bool) → lowest from (map (λ x. x.steps) (pick b (r ∷ ended rest) (ended rest))) ≡ lowest (pick b (min from r.steps) from) (map (λ x. x.steps) (ended rest))
-    go true = refl
-    go false = refl
+pick_and : (b t : Bool) → pick b t false ≡ (b && t)
+unfolding pick
+pick_and true t = refl
+pick_and false t = refl
 
-pub within_next : (bound had : ℕ) (r : Run) (rest : List Run) → had + within bound (steps_of (r ∷ rest)) ≡ pick (eqb r.number 0) (pick (leb r.steps bound) (suc had) had) had + within bound (steps_of rest)
-unfolding steps_of ended those pick within
-within_next bound had r rest = go (eqb r.number 0) (leb r.steps bound) refl
+eqb_swap : (a b : ℕ) → eqb a b ≡ eqb b a
+eqb_swap a b = go (eqb a b) refl
   where
-    go : (b d : Bool) → leb r.steps bound ≡ d → had + within bound (map (λ x. x.steps) (pick b (r ∷ ended rest) (ended rest))) ≡ pick b (pick d (suc had) had) had + within bound (map (λ x. x.steps) (ended rest))
-    go true true e = rw e (omega arith)
-    go true false e = rw e
-    go false d e = refl
+    go : (t : Bool) → eqb a b ≡ t → eqb a b ≡ eqb b a
+    go true e = e ∙ sym (eq-eqb b a (sym (eqb-true a b e)))
+    go false e = e ∙ sym (ne_eqb b a (λ h. false≢true (sym e ∙ eq-eqb a b (sym h))))
+
+pub among_any : (n : ℕ) (xs : List ℕ) → list_any (λ m. eqb m n) xs ≡ among n xs
+unfolding among
+among_any n = same_from_clauses (list_any (λ m. eqb m n)) (among n) (λ m b. eqb m n || b) refl (λ m rest. refl) (λ m rest. pick_or (eqb n m) (among n rest) ∙ ap (λ b. b || among n rest) (eqb_swap n m))
+
+pub known_all : (rs : List Run) → list_all (λ r. among r.number numbers) rs ≡ known rs
+unfolding known
+known_all = same_from_clauses (list_all (λ r. among r.number numbers)) known (λ r b. among r.number numbers && b) refl (λ r rest. refl) (λ r rest. pick_and (among r.number numbers) (known rest))
+
+pub count_counts : (n : ℕ) (rs : List Run) → count n rs ≡ count_by (λ r. eqb r.number n) rs
+unfolding count
+count_counts n = is_count_by (count n) (λ r. eqb r.number n) refl (λ r rest. pick_more (eqb r.number n) (count n rest))
+
+pub ended_filter : (rs : List Run) → filter (λ r. eqb r.number 0) rs ≡ ended rs
+unfolding ended those
+ended_filter = same_from_clauses (filter (λ r. eqb r.number 0)) ended (λ r l. cond (eqb r.number 0) (r ∷ l) l) refl (λ r rest. refl) (λ r rest. pick_cond (eqb r.number 0) (r ∷ ended rest) (ended rest))
 
 -- as many runs ended with 0 as are counted for it
-pub ended_count : (runs : List Run) → length (steps_of runs) ≡ count 0 runs
-unfolding steps_of ended those count pick
-ended_count [] = refl
-ended_count (r ∷ rest) = go (eqb r.number 0) (ended_count rest)
+pub ended_count : (rs : List Run) → length (steps_of rs) ≡ count_by (λ r. eqb r.number 0) rs
+unfolding steps_of
+ended_count rs = simp length-map (ap length (sym (ended_filter rs)) ∙ length-filter (λ r. eqb r.number 0) rs)
+
+within_step : (bound : ℕ) (r : Run) (rest : List Run) (b : Bool) → within bound (map (λ x. x.steps) (pick b (r ∷ ended rest) (ended rest))) ≡ cond (b && leb r.steps bound) (1 + within bound (steps_of rest)) (within bound (steps_of rest))
+unfolding steps_of within pick
+within_step bound r rest true = pick_more (leb r.steps bound) (within bound (steps_of rest))
+within_step bound r rest false = refl
+
+pub within_counts : (bound : ℕ) (rs : List Run) → within bound (steps_of rs) ≡ count_by (λ r. eqb r.number 0 && leb r.steps bound) rs
+unfolding within steps_of ended those
+within_counts bound = is_count_by (λ l. within bound (steps_of l)) (λ r. eqb r.number 0 && leb r.steps bound) refl (λ r rest. within_step bound r rest (eqb r.number 0))
+
+highest_fold : (from : ℕ) (xs : List ℕ) → fold max from xs ≡ highest from xs
+unfolding highest
+highest_fold from [] = refl
+highest_fold from (x ∷ rest) = highest_fold (max from x) rest
+
+lowest_fold : (from : ℕ) (xs : List ℕ) → fold min from xs ≡ lowest from xs
+unfolding lowest
+lowest_fold from [] = refl
+lowest_fold from (x ∷ rest) = lowest_fold (min from x) rest
+
+-- what `max().unwrap_or(0)` and `min().unwrap_or(0)` give
+pub greatest_is : (o : Option ℕ) (xs : List ℕ) → option_map (λ x. x) o ≡ reduce max xs → unwrap_or o 0 ≡ greatest xs
+unfolding greatest highest
+greatest_is o xs e = ap (λ p. unwrap_or p 0) (sym (option_map_id o) ∙ e) ∙ go xs
   where
-    go : (b : Bool) → length (map (λ x. x.steps) (ended rest)) ≡ count 0 rest → length (map (λ x. x.steps) (pick b (r ∷ ended rest) (ended rest))) ≡ pick b (suc (count 0 rest)) (count 0 rest)
-    go true e = ap suc e
-    go false e = e
+    go : (ys : List ℕ) → unwrap_or (reduce max ys) 0 ≡ greatest ys
+    go [] = refl
+    go (y ∷ rest) = let e : y ≡ max 0 y = omega arith in highest_fold y rest ∙ ap (λ m. highest m rest) e
 
--- a list worked out up to a place, with zeros from there on
-unfoldable pub partly : (ℕ → ℕ) → List ℕ → ℕ → List ℕ
-partly f [] k = []
-partly f (x ∷ rest) zero = 0 ∷ partly f rest zero
-partly f (x ∷ rest) (suc k) = f x ∷ partly f rest k
+pub least_is : (o : Option ℕ) (xs : List ℕ) → option_map (λ x. x) o ≡ reduce min xs → unwrap_or o 0 ≡ least xs
+unfolding least lowest greatest highest
+least_is o xs e = ap (λ p. unwrap_or p 0) (sym (option_map_id o) ∙ e) ∙ go xs
+  where
+    go : (ys : List ℕ) → unwrap_or (reduce min ys) 0 ≡ least ys
+    go [] = refl
+    go (y ∷ rest) = let e : y ≡ min (greatest (y ∷ rest)) y = omega (arith, greatest_above {x = y} {xs = y ∷ rest} here) in lowest_fold y rest ∙ ap (λ m. lowest m rest) e
 
-pub partly_none : (f : ℕ → ℕ) (xs : List ℕ) → replicate (length xs) 0 ≡ partly f xs 0
-unfolding partly
-partly_none f [] = refl
-partly_none f (x ∷ rest) = ap (λ l. 0 ∷ l) (partly_none f rest)
+-- what an array's `map` gives, where each call gives what h gives and leaves the closure as it was
+module _ {F A B : Type 0} (g : Mut F (A × Unit {0}) B) (f : F) (h : A → B) (acts : ActsAs g f h) (xs : List A) (ys : List B) where
+  mapped_from : (n i : ℕ) → MapsFrom g f xs ys i n → length xs ≡ i + n → length ys ≡ i + n → drop i ys ≡ map h (drop i xs)
+  mapped_from zero i m a b = rw (drop_of_length-le ys {i = i} (omega arith), drop_of_length-le xs {i = i} (omega arith))
+  mapped_from (suc n) i m a b =
+      let k = acts m.1 m.2 m.0 m.5 in
+      let s : suc i ≡ i + 1 = omega arith in
+      let later = mapped_from n (suc i) (subst (λ j. MapsFrom g f xs ys j n) (sym s) (subst (λ q. MapsFrom g q xs ys (i + 1) n) k.0 m.6)) (omega arith) (omega arith) in
+      rw (drop-cons ys i m.2 (omega arith), drop-cons xs i m.1 (omega arith), later, m.3.0, m.4.0, k.1)
 
-pub partly_next : (f : ℕ → ℕ) (xs : List ℕ) (k : ℕ) → k < length xs → set (partly f xs k) k (f (get_or xs k 0)) ≡ partly f xs (suc k)
-unfolding partly
-partly_next f [] k h = refl
-partly_next f (x ∷ rest) zero h = refl
-partly_next f (x ∷ rest) (suc k) h = ap (λ l. f x ∷ l) (partly_next f rest k (omega arith))
-
-pub partly_all : (f : ℕ → ℕ) (xs : List ℕ) → partly f xs (length xs) ≡ map f xs
-unfolding partly
-partly_all f [] = refl
-partly_all f (x ∷ rest) = ap (λ l. f x ∷ l) (partly_all f rest)
-
--- ---- the loops over the words: one run more, and the end
-
--- a count grows by at most one
-pub step_le : {new : ℕ} (b : Bool) (had : ℕ) → new ≡ pick b (suc had) had → new ≤ had + 1
-unfolding pick
-step_le true had e = omega arith
-step_le false had e = omega arith
-
-pub step_le_2 : {new : ℕ} (a b : Bool) (had : ℕ) → new ≡ pick a (pick b (suc had) had) had → new ≤ had + 1
-unfolding pick
-step_le_2 true b had e = step_le b had e
-step_le_2 false b had e = omega arith
-
-pub count_turn : (words : List ℕ) (at n had : ℕ) {new : ℕ} → 2 < length words - at → new ≡ pick (eqb (get_or words at 0) n) (suc had) had → had + count n (runs_of (drop at words)) ≡ new + count n (runs_of (drop (at + 3) words))
-count_turn words at n had h e = rw (next_run words at h, e) (count_next n had (run (get_or words at 0) (get_or words (at + 1) 0) (get_or words (at + 2) 0)) (runs_of (drop (at + 3) words)))
-
-pub count_end : (words : List ℕ) (at n had : ℕ) → length words - at ≤ 2 → had + count n (runs_of (drop at words)) ≡ had
-unfolding count
-count_end words at n had h = rw (no_run words at h) (omega arith)
-
-pub steps_turn : (words : List ℕ) (at had : ℕ) {new : ℕ} → 2 < length words - at → new ≡ pick (eqb (get_or words at 0) 0) (max had (get_or words (at + 1) 0)) had → highest had (steps_of (runs_of (drop at words))) ≡ highest new (steps_of (runs_of (drop (at + 3) words)))
-steps_turn words at had h e = rw (next_run words at h, e) (steps_next had (run (get_or words at 0) (get_or words (at + 1) 0) (get_or words (at + 2) 0)) (runs_of (drop (at + 3) words)))
-
-pub steps_end : (words : List ℕ) (at had : ℕ) → length words - at ≤ 2 → highest had (steps_of (runs_of (drop at words))) ≡ had
-unfolding steps_of ended those highest
-steps_end words at had h = rw (no_run words at h)
-
-pub frames_turn : (words : List ℕ) (at had : ℕ) {new : ℕ} → 2 < length words - at → new ≡ pick (eqb (get_or words at 0) 0) (max had (get_or words (at + 2) 0)) had → highest had (frames_of (runs_of (drop at words))) ≡ highest new (frames_of (runs_of (drop (at + 3) words)))
-frames_turn words at had h e = rw (next_run words at h, e) (frames_next had (run (get_or words at 0) (get_or words (at + 1) 0) (get_or words (at + 2) 0)) (runs_of (drop (at + 3) words)))
-
-pub frames_end : (words : List ℕ) (at had : ℕ) → length words - at ≤ 2 → highest had (frames_of (runs_of (drop at words))) ≡ had
-unfolding frames_of ended those highest
-frames_end words at had h = rw (no_run words at h)
-
-pub least_turn : (words : List ℕ) (at had : ℕ) {new : ℕ} → 2 < length words - at → new ≡ pick (eqb (get_or words at 0) 0) (min had (get_or words (at + 1) 0)) had → lowest had (steps_of (runs_of (drop at words))) ≡ lowest new (steps_of (runs_of (drop (at + 3) words)))
-least_turn words at had h e = rw (next_run words at h, e) (least_next had (run (get_or words at 0) (get_or words (at + 1) 0) (get_or words (at + 2) 0)) (runs_of (drop (at + 3) words)))
-
-pub least_end : (words : List ℕ) (at had : ℕ) → length words - at ≤ 2 → lowest had (steps_of (runs_of (drop at words))) ≡ had
-unfolding steps_of ended those lowest
-least_end words at had h = rw (no_run words at h)
-
-pub within_turn : (words : List ℕ) (at bound had : ℕ) {new : ℕ} → 2 < length words - at → new ≡ pick (eqb (get_or words at 0) 0) (pick (leb (get_or words (at + 1) 0) bound) (suc had) had) had → had + within bound (steps_of (runs_of (drop at words))) ≡ new + within bound (steps_of (runs_of (drop (at + 3) words)))
-within_turn words at bound had h e = rw (next_run words at h, e) (within_next bound had (run (get_or words at 0) (get_or words (at + 1) 0) (get_or words (at + 2) 0)) (runs_of (drop (at + 3) words)))
-
-pub within_end : (words : List ℕ) (at bound had : ℕ) → length words - at ≤ 2 → had + within bound (steps_of (runs_of (drop at words))) ≡ had
-unfolding steps_of ended those within
-within_end words at bound had h = rw (no_run words at h) (omega arith)
-
-pub known_turn : (words : List ℕ) (at : ℕ) {b : Bool} → 2 < length words - at → b ≡ among (get_or words at 0) numbers → b ≡ true → known (runs_of (drop at words)) ≡ known (runs_of (drop (at + 3) words))
-unfolding known pick
-known_turn words at h e t = rw (next_run words at h, sym e ∙ t)
-
-pub known_stop : (words : List ℕ) (at : ℕ) {b : Bool} → 2 < length words - at → b ≡ among (get_or words at 0) numbers → b ≡ false → known (runs_of (drop at words)) ≡ false
-unfolding known pick
-known_stop words at h e t = rw (next_run words at h, sym e ∙ t)
-
-pub known_end : (words : List ℕ) (at : ℕ) → length words - at ≤ 2 → known (runs_of (drop at words)) ≡ true
-unfolding known
-known_end words at h = rw (no_run words at h)
-
--- ---- the table of answer numbers
-
-table_length : length numbers ≡ 22
-unfolding numbers
-table_length = refl
-
-pub among_found : (n i : ℕ) → i < 22 → n ≡ get_or numbers i 0 → among n (drop i numbers) ≡ true
-unfolding among pick
-among_found n i h e = rw (drop-cons numbers i 0 (omega (arith, table_length)), eq-eqb n (get_or numbers i 0) e)
-
-among_step : (n m : ℕ) (rest : List ℕ) → (n ≡ m → ⊥) → among n (m ∷ rest) ≡ among n rest
-unfolding among pick
-among_step n m rest e = rw (ne_eqb n m e)
-
-pub among_later : (n i : ℕ) → i < 22 → (n ≡ get_or numbers i 0 → ⊥) → among n (drop i numbers) ≡ among n (drop (i + 1) numbers)
-among_later n i h e =
-    let s : suc i ≡ i + 1 = omega arith in
-    ap (λ l. among n l) (drop-cons numbers i 0 (omega (arith, table_length))) ∙ among_step n (get_or numbers i 0) (drop (suc i) numbers) e ∙ ap (λ k. among n (drop k numbers)) s
-
-pub among_end : (n i : ℕ) → 22 ≤ i → among n (drop i numbers) ≡ false
-unfolding among
-among_end n i h = rw (drop_of_length-le numbers (subst (λ m. m ≤ i) (sym table_length) h))
-
-pub counts_start : (f : ℕ → ℕ) → replicate 22 0 ≡ partly f numbers 0
-counts_start f = sym (ap (λ m. replicate m 0) table_length) ∙ partly_none f numbers
-
-pub counts_next : (f : ℕ → ℕ) (l : List ℕ) (i n x : ℕ) → l ≡ partly f numbers i → i < 22 → n ≡ get_or numbers i 0 → x ≡ f n → set l i x ≡ partly f numbers (i + 1)
-counts_next f l i n x e h t v = let s : suc i ≡ i + 1 = omega arith in rw (e, v, t, ← s) (partly_next f numbers i (omega (arith, table_length)))
-
-pub counts_done : (f : ℕ → ℕ) (l : List ℕ) (i : ℕ) → l ≡ partly f numbers i → i ≤ 22 → 22 ≤ i → l ≡ map f numbers
-counts_done f l i e h k = let s : i ≡ length numbers = omega (arith, table_length) in e ∙ ap (λ m. partly f numbers m) s ∙ partly_all f numbers
-
--- past the table stands 0
-pub past_table : (i : ℕ) → 22 ≤ i → 0 ≡ get_or numbers i 0
-past_table i h = sym (get_or-eq_default numbers 0 (subst (λ m. m ≤ i) (sym table_length) h))
+  pub mapped : {n : ℕ} → IsMapOf g f xs ys n → length xs ≡ n → ys ≡ map h xs
+  mapped {n} m e = mapped_from n 0 m.each (omega arith) (omega (arith, m.long))

@@ -1,4 +1,5 @@
-pub mod Words
+pub mod Chunks
 pub mod Counting
 pub mod Tenths
 pub mod Order
+pub mod Said

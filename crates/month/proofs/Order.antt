@@ -7,7 +7,8 @@ use native.Mathlib.Omega.{arith}
 use lib.ListN.{length}
 use lib.Dec.{leb, eqb}
 use Rattle.meaning.specs.Choice.{pick}
-use Rattle.month.specs.Month.{Run, runs_of, numbers, among, known, count, counts_of, ended, steps_of, frames_of, highest, greatest, lowest, least, within, enough, those, nine_tenths, figures, month_of, Permutes, none, same, swap, both}
+use Rattle.month.specs.declared.Run.{Run}
+use Rattle.month.specs.Month.{runs_of, numbers, among, known, count, counts_of, ended, steps_of, frames_of, highest, greatest, lowest, least, within, enough, those, nine_tenths, figures, month_of, Permutes, none, same, swap, both}
 
 -- any list is in its own order
 as_is : {A : Type 0} (xs : List A) → Permutes xs xs

@@ -1,12 +1,11 @@
 -- Worked months: the definitions' answers on small slices of words. Assumes nothing.
 use Rattle.std.specs.Prelude.{ℕ, ◌≡◌, refl, List, [], ◌∷◌, map, replicate}
 use Rattle.meaning.specs.Choice.{pick}
-use Rattle.month.specs.declared.Summary.{Summary}
-use Rattle.month.specs.Month.{runs_of, numbers, among, known, count, counts_of, those, ended, steps_of, frames_of, highest, greatest, lowest, least, within, enough, nine_tenths, figures, refused, month_of}
+use Rattle.month.specs.Month.{Report, runs_of, numbers, among, known, count, counts_of, those, ended, steps_of, frames_of, highest, greatest, lowest, least, within, enough, nine_tenths, figures, refused, month_of}
 
 pub record Case : Type 0 where
   pub words : List ℕ
-  pub answer : Summary
+  pub answer : Report
 
 -- no run; a part of one; a number not in the table; ten runs done, of which one takes far longer, beside one out of budget and one out of range
 abbrev pub cases : List Case

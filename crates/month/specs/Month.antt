@@ -1,15 +1,13 @@
 -- The month in numbers: the runs in a slice of words, the counts by answer number, and the figures over the runs that ended with 0. Assumes nothing.
-use Rattle.std.specs.Prelude.{ℕ, suc, ◌*◌, ◌≤◌, ◌%◌, min, max, Bool, true, false, List, [], ◌∷◌, map, length, replicate, ltb, leb, eqb}
+use Rattle.std.specs.Prelude.{ℕ, suc, ◌*◌, ◌≤◌, ◌%◌, min, max, Bool, true, false, List, [], ◌∷◌, map, length, replicate, ltb, leb, eqb, Result, Ok, Err, codes}
 use Rattle.meaning.specs.Choice.{pick}
 use Rattle.meaning.specs.Derivation.{Has}
+use Rattle.month.specs.declared.Run.{Run}
 use Rattle.month.specs.declared.Summary.{Summary}
+use Rattle.month.specs.declared.Refusal.{Refusal}
+use Rattle.month.specs.declared.Refusal.TheVariants.{WrongLength, UnknownNumber}
 
 -- "answer number, steps and frames of each run"
-pub record Run : Type 0 where
-  pub number : ℕ
-  pub steps : ℕ
-  pub frames : ℕ
-
 abbrev pub run : (number steps frames : ℕ) → Run
 run n s f = record { number = n; steps = s; frames = f }
 
@@ -91,17 +89,44 @@ pub record IsNineTenths (xs : List ℕ) (v : ℕ) : Type 0 where
   pub nine_tenths : 9 * length xs ≤ 10 * within v xs
   pub smallest : (w : ℕ) → 9 * length xs ≤ 10 * within w xs → v ≤ w
 
+-- what is said of a month: `number` is 0, or the refusal's 80 or 81 with all else 0; `counts` are in the order of the table
+pub record Report : Type 0 where
+  pub number : ℕ
+  pub counts : List ℕ
+  pub least : ℕ
+  pub greatest : ℕ
+  pub most : ℕ
+  pub frames : ℕ
+
 -- the four figures and the counts
-unfoldable pub figures : List Run → Summary
+unfoldable pub figures : List Run → Report
 figures runs = record { number = 0; counts = counts_of runs; least = least (steps_of runs); greatest = greatest (steps_of runs); most = nine_tenths (steps_of runs); frames = greatest (frames_of runs) }
 
 -- a refusal has its number alone
-unfoldable pub refused : ℕ → Summary
+unfoldable pub refused : ℕ → Report
 refused n = record { number = n; counts = replicate 22 0; least = 0; greatest = 0; most = 0; frames = 0 }
 
 -- "80 over 4,096 runs or a part of one, 81 an answer number not in the table"
-unfoldable pub month_of : (words : List ℕ) → Summary
+unfoldable pub month_of : (words : List ℕ) → Report
 month_of words = pick (ltb 12288 (length words)) (refused 80) (pick (eqb (length words % 3) 0) (pick (known (runs_of words)) (figures (runs_of words)) (refused 81)) (refused 80))
+
+-- the number of a refusal
+abbrev pub refusal_number : Refusal → ℕ
+refusal_number WrongLength = 80
+refusal_number UnknownNumber = 81
+
+-- and its words
+abbrev pub refusal_text : Refusal → List ℕ
+refusal_text WrongLength = codes "over 4,096 runs, or a part of one"
+refusal_text UnknownNumber = codes "an answer number not in the table"
+
+-- what is said of a month by its figures, and by an answer: no two answers say the same
+abbrev pub reported : Summary → Report
+reported s = record { number = 0; counts = s.counts; least = s.least; greatest = s.greatest; most = s.most; frames = s.frames }
+
+abbrev pub said : Result Summary Refusal → Report
+said (Ok s) = reported s
+said (Err r) = refused (refusal_number r)
 
 -- the same elements in another order
 pub data Permutes {A : Type 0} : List A → List A → Type 0 where

@@ -1,267 +1,235 @@
 // The month in numbers: from the answer number, steps and frames of each run, the counts by answer number and four figures.
 #![tactic(auto)]
 
-ghost use Rattle.std.specs.Prelude.{◌≡◌, ◌<◌, ◌≤◌, max, min, suc, length, get_or, leb, eqb};
-ghost use Rattle.meaning.specs.Choice.{pick};
-ghost use Rattle.month.specs.Month.{numbers, among, runs_of, known, count, counts_of, steps_of, frames_of, lowest, greatest, within, nine_tenths, figures, refused, month_of};
+ghost use Rattle.std.specs.Prelude.{◌≡◌, ◌≤◌, ◌%◌, ◌↔◌, Bool, ℕ, map, length, get_or, count_by, IsOk, IfOk, IfErr};
+ghost use Rattle.std.specs.Iterator.{ActsAs, ActsAsAt};
+ghost use Rattle.month.specs.declared.Run.{Run};
+ghost use Rattle.month.specs.Month.{numbers, among, run, runs_of, known, ended, count, counts_of, steps_of, greatest, least, nine_tenths, refusal_number, said, reported, figures, month_of};
 
-// The figures of a month. `number` is 0, or the refusal's 80 or 81 with all else 0; `counts` are in the order of the table of answer numbers.
-#[derive(Clone, Copy)]
+use std::error::Error;
+use std::fmt;
+
+// The words of a run: its answer number, steps and frames.
+const RUN_WORDS: usize = 3;
+
+// The most words of a month: 4,096 runs.
+const MOST_WORDS: usize = 4096 * RUN_WORDS;
+
+// The count of answer numbers in the table.
+const NUMBER_COUNT: usize = 22;
+
+// The answer numbers of a run in document 01's table.
+const NUMBERS: [u32; NUMBER_COUNT] = [
+    0, 1, 2, 3, 4, 5, 6, 7, 8, 9, 10, 11, 12, 20, 21, 22, 23, 24, 31, 32, 33, 34,
+];
+
+// The figures of a month; `counts` are in the order of the table of answer numbers.
+#[derive(Clone, Copy, Debug, PartialEq, Eq)]
 pub struct Summary {
-    pub number: u32,
-    pub counts: [u32; 22],
+    pub counts: [u32; NUMBER_COUNT],
     pub least: u32,
     pub greatest: u32,
     pub most: u32,
     pub frames: u32,
 }
 
-// The answer numbers of a run in document 01's table.
-const NUMBERS: [u32; 22] = [
-    0, 1, 2, 3, 4, 5, 6, 7, 8, 9, 10, 11, 12, 20, 21, 22, 23, 24, 31, 32, 33, 34,
-];
-
-// The answer number at a place in the table.
-fn table_number(i: usize) -> u32
-    requires { i < 22 }
-    ensures { result ≡ get_or numbers i 0 }
-{
-    NUMBERS[i]
+// Why a month is refused: over 4,096 runs or a part of one, or an answer number that is not in the table.
+#[derive(Clone, Copy, Debug, PartialEq, Eq)]
+pub enum Refusal {
+    WrongLength,
+    UnknownNumber,
 }
+
+impl Refusal {
+    // The refusal's number.
+    pub fn number(self) -> u32
+        ensures { result ≡ refusal_number self }
+    {
+        match self {
+            Refusal::WrongLength => 80,
+            Refusal::UnknownNumber => 81,
+        }
+    }
+}
+
+impl fmt::Display for Refusal {
+    ghost use Rattle.std.specs.Prelude.{Some};
+    ghost use Rattle.month.specs.Month.{refusal_text};
+
+    ghost output = { λ r. Some (refusal_text r) };
+
+    fn fmt<W: fmt::Write>(&self, f: &mut fmt::Formatter<W>) -> fmt::Result {
+        f.write_str(match self {
+            Refusal::WrongLength => "over 4,096 runs, or a part of one",
+            Refusal::UnknownNumber => "an answer number not in the table",
+        })
+    }
+}
+
+impl Error for Refusal {}
 
 // The answer number whose count stands at a place of the counts; past the table, 0.
 pub fn number_at(i: usize) -> u32
     ensures { result ≡ get_or numbers i 0 }
 {
-    if i < 22 {
-        return table_number(i);
-    }
-    0
+    NUMBERS.get(i).copied().unwrap_or(0)
 }
 
 // Is it in the table of answer numbers?
 fn in_table(number: u32) -> bool
     ensures { result ≡ among number numbers }
 {
-    let mut i: usize = 0;
-    while i < 22 {
-        if number == number_at(i) {
-            return true;
-        }
-        i += 1;
-    }
-    false
+    NUMBERS.contains(&number)
 }
 
-// Is every run's answer number in the table?
-fn all_known(runs: &[u32]) -> bool
-    ensures { result ≡ known (runs_of runs.now) }
-{
-    let mut at: usize = 0;
-    while 2 < runs.len() - at {
-        if in_table(runs[at]) {
-            at += 3;
-        } else {
-            return false;
-        }
-    }
-    true
+// One run. Its answer number is a word of the month, as it was kept: it may be none of the table's, which is refused.
+#[derive(Clone, Copy)]
+struct Run {
+    number: u32,
+    steps: u32,
+    frames: u32,
 }
 
-// One more, if the test holds.
-fn one_more(had: u32, test: bool) -> u32
-    requires { had < 12288 }
-    ensures { result ≡ pick test (suc had) had }
-{
-    if test { had + 1 } else { had }
-}
-
-// How many runs have the answer number.
-fn count_of(runs: &[u32], number: u32) -> u32
-    requires { length runs.now ≤ 12288 }
-    ensures value { result ≡ count number (runs_of runs.now) }
-    ensures upper_bound { result ≤ 4096 }
-{
-    let mut counted: u32 = 0;
-    let mut at: usize = 0;
-    while 2 < runs.len() - at {
-        counted = one_more(counted, runs[at] == number);
-        at += 3;
-    }
-    counted
-}
-
-// The counts of all answer numbers in the table's order.
-fn counts_of(runs: &[u32]) -> [u32; 22]
-    requires { length runs.now ≤ 12288 }
-    ensures { result ≡ counts_of (runs_of runs.now) }
-{
-    let mut counts: [u32; 22] = [0; 22];
-    let mut i: usize = 0;
-    while i < 22 {
-        counts[i] = count_of(runs, number_at(i));
-        i += 1;
-    }
-    counts
-}
-
-// The greater of two, if the run ended with 0.
-fn raised(had: u32, number: u32, new: u32) -> u32
-    ensures { result ≡ pick (eqb number 0) (max had new) had }
-{
-    if number == 0 {
-        if had < new {
-            return new;
-        }
-        return had;
-    }
-    had
-}
-
-// The smaller of two, if the run ended with 0.
-fn lowered(had: u32, number: u32, new: u32) -> u32
-    ensures { result ≡ pick (eqb number 0) (min had new) had }
-{
-    if number == 0 {
-        if new < had {
-            return new;
-        }
-        return had;
-    }
-    had
-}
-
-// The greatest steps of the runs that ended with 0.
-fn greatest_steps(runs: &[u32]) -> u32
-    ensures { result ≡ greatest (steps_of (runs_of runs.now)) }
-{
-    let mut top: u32 = 0;
-    let mut at: usize = 0;
-    while 2 < runs.len() - at {
-        top = raised(top, runs[at], runs[at + 1]);
-        at += 3;
-    }
-    top
-}
-
-// The greatest frames of the runs that ended with 0.
-fn greatest_frames(runs: &[u32]) -> u32
-    ensures { result ≡ greatest (frames_of (runs_of runs.now)) }
-{
-    let mut top: u32 = 0;
-    let mut at: usize = 0;
-    while 2 < runs.len() - at {
-        top = raised(top, runs[at], runs[at + 2]);
-        at += 3;
-    }
-    top
-}
-
-// The least steps of the runs that ended with 0, from a bound on downwards.
-fn least_steps(runs: &[u32], from: u32) -> u32
-    ensures { result ≡ lowest from (steps_of (runs_of runs.now)) }
-{
-    let mut low = from;
-    let mut at: usize = 0;
-    while 2 < runs.len() - at {
-        low = lowered(low, runs[at], runs[at + 1]);
-        at += 3;
-    }
-    low
-}
-
-// One more, if the run ended with 0 and its steps do not exceed the bound.
-fn one_within(had: u32, number: u32, steps: u32, bound: u32) -> u32
-    requires { had < 12288 }
-    ensures { result ≡ pick (eqb number 0) (pick (leb steps bound) (suc had) had) had }
-{
-    if number == 0 {
-        return one_more(had, steps <= bound);
-    }
-    had
-}
-
-// How many runs that ended with 0 have steps that do not exceed the bound.
-fn within_of(runs: &[u32], bound: u32) -> u32
-    requires { length runs.now ≤ 12288 }
-    ensures value { result ≡ within bound (steps_of (runs_of runs.now)) }
-    ensures upper_bound { result ≤ 4096 }
-{
-    let mut counted: u32 = 0;
-    let mut at: usize = 0;
-    while 2 < runs.len() - at {
-        counted = one_within(counted, runs[at], runs[at + 1], bound);
-        at += 3;
-    }
-    counted
-}
-
-// The smallest step count that at least nine tenths of the runs that ended with 0 don't exceed, looked for by halves below the greatest.
-fn nine_tenths(runs: &[u32], top: u32) -> u32
-    requires runs_len_bound { length runs.now ≤ 12288 }
-    requires top_value { top ≡ greatest (steps_of (runs_of runs.now)) }
-    ensures { result ≡ nine_tenths (steps_of (runs_of runs.now)) }
-{
-    let wanted = 9 * count_of(runs, 0);
-    let mut low: u32 = 0;
-    let mut high = top;
-    while low < high {
-        let middle = low + (high - low) / 2;
-        if wanted <= 10 * within_of(runs, middle) {
-            high = middle;
-        } else {
-            low = middle + 1;
+impl Run {
+    // The run of three words.
+    fn from_words(words: &[u32]) -> Run
+        requires { length words.now ≡ 3 }
+        ensures { result ≡ run (get_or words.now 0 0) (get_or words.now 1 0) (get_or words.now 2 0) }
+    {
+        Run {
+            number: words[0],
+            steps: words[1],
+            frames: words[2],
         }
     }
-    low
 }
 
-// A refusal.
-fn refused(number: u32) -> Summary
-    ensures { result ≡ refused number }
-{
-    Summary {
-        number,
-        counts: [0; 22],
-        least: 0,
-        greatest: 0,
-        most: 0,
-        frames: 0,
+// The runs of a month, in words.
+#[derive(Clone, Copy)]
+struct Runs<'a> {
+    words: &'a [u32],
+    ghost few: { length words.now ≤ 12288 },
+}
+
+impl<'a> Runs<'a> {
+    // The runs in words, three a run; refused over 4,096 runs or a part of one.
+    fn from_words(words: &'a [u32]) -> Result<Runs<'a>, Refusal>
+        ensures found { IfOk result (λ r. r.words.now ≡ words.now) }
+        ensures whole { IsOk result ↔ ((length words.now ≤ 12288) × (length words.now % 3 ≡ 0)) }
+        ensures refused { IfErr result (λ e. e ≡ Refusal.WrongLength) }
+    {
+        if words.len() > MOST_WORDS || words.len() % RUN_WORDS != 0 {
+            return Err(Refusal::WrongLength);
+        }
+        Ok(Runs { words })
     }
-}
 
-// The figures of runs whose answer numbers are all known.
-fn figures(runs: &[u32]) -> Summary
-    requires { length runs.now ≤ 12288 }
-    ensures { result ≡ figures (runs_of runs.now) }
-{
-    let counts = counts_of(runs);
-    let greatest = greatest_steps(runs);
-    let least = least_steps(runs, greatest);
-    let most = nine_tenths(runs, greatest);
-    let frames = greatest_frames(runs);
-    Summary {
-        number: 0,
-        counts,
-        least,
-        greatest,
-        most,
-        frames,
+    // Is every run's answer number in the table?
+    fn all_known(&self) -> bool
+        ensures { result ≡ known (runs_of self.now.words.now) }
+    {
+        self.words
+            .chunks_exact(RUN_WORDS)
+            .map(Run::from_words)
+            .all(|run| in_table(run.number))
+    }
+
+    // How many runs pass a test.
+    fn count<F: FnMut(&Run) -> bool>(&self, test: F) -> u32
+        requires { (f : F) (x : _) → F.pre f x }
+        ensures value { (t : Run → Bool) → ActsAsAt F.FnMut test t → result ≡ count_by t (runs_of self.now.words.now) }
+        ensures upper_bound { result ≤ 4096 }
+    {
+        self.words
+            .chunks_exact(RUN_WORDS)
+            .map(Run::from_words)
+            .filter(test)
+            .count() as u32
+    }
+
+    // How many runs have the answer number.
+    fn count_of(&self, number: u32) -> u32
+        ensures { result ≡ count number (runs_of self.now.words.now) }
+    {
+        self.count(|run| run.number == number)
+    }
+
+    // The counts of all answer numbers in the table's order.
+    fn counts(&self) -> [u32; NUMBER_COUNT]
+        ensures { result ≡ counts_of (runs_of self.now.words.now) }
+    {
+        NUMBERS.map(|number| self.count_of(number))
+    }
+
+    // The greatest of a figure over the runs that ended with 0; with no such run, 0.
+    fn greatest<F: FnMut(Run) -> u32>(&self, figure: F) -> u32
+        requires { (f : F) (x : _) → F.pre f x }
+        ensures { (f : Run → ℕ) → ActsAs F.FnMut figure f → result ≡ greatest (map f (ended (runs_of self.now.words.now))) }
+    {
+        self.words
+            .chunks_exact(RUN_WORDS)
+            .map(Run::from_words)
+            .filter(|run| run.number == 0)
+            .map(figure)
+            .max()
+            .unwrap_or(0)
+    }
+
+    // The least steps of the runs that ended with 0; with no such run, 0.
+    fn least_steps(&self) -> u32
+        ensures { result ≡ least (steps_of (runs_of self.now.words.now)) }
+    {
+        self.words
+            .chunks_exact(RUN_WORDS)
+            .map(Run::from_words)
+            .filter(|run| run.number == 0)
+            .map(|run| run.steps)
+            .min()
+            .unwrap_or(0)
+    }
+
+    // The smallest step count that at least nine tenths of the runs that ended with 0 don't exceed, looked for by halves below the greatest.
+    fn nine_tenths(&self, top: u32) -> u32
+        requires { top ≡ greatest (steps_of (runs_of self.now.words.now)) }
+        ensures { result ≡ nine_tenths (steps_of (runs_of self.now.words.now)) }
+    {
+        let wanted = 9 * self.count(|run| run.number == 0);
+        let mut low: u32 = 0;
+        let mut high = top;
+        while low < high {
+            let middle = low + (high - low) / 2;
+            let within = self.count(|run| run.number == 0 && run.steps <= middle);
+            if wanted <= 10 * within {
+                high = middle;
+            } else {
+                low = middle + 1;
+            }
+        }
+        low
+    }
+
+    // The figures of runs whose answer numbers are all known.
+    fn figures(&self) -> Summary
+        ensures { reported result ≡ figures (runs_of self.now.words.now) }
+    {
+        let greatest = self.greatest(|run| run.steps);
+        Summary {
+            counts: self.counts(),
+            least: self.least_steps(),
+            greatest,
+            most: self.nine_tenths(greatest),
+            frames: self.greatest(|run| run.frames),
+        }
     }
 }
 
 // The month in numbers, of three words a run: answer number, steps and frames.
-pub fn month(runs: &[u32]) -> Summary
-    ensures { result ≡ month_of runs.now }
+pub fn month(runs: &[u32]) -> Result<Summary, Refusal>
+    ensures { said result ≡ month_of runs.now }
 {
-    if 12288 < runs.len() {
-        return refused(80);
+    let runs = Runs::from_words(runs)?;
+    if !runs.all_known() {
+        return Err(Refusal::UnknownNumber);
     }
-    if runs.len() % 3 == 0 {
-        if all_known(runs) {
-            return figures(runs);
-        }
-        return refused(81);
-    }
-    refused(80)
+    Ok(runs.figures())
 }

@@ -5,27 +5,23 @@ use mathlib.Core.List.{List, [], ◌∷◌, map}
 use mathlib.Core.Path.{◌≡◌, sym, ap, ◌∙◌}
 use native.Mathlib.Omega.{arith}
 use lib.ListN.{get_or, replicate}
-use Rattle.meaning.specs.declared.Verdict.{Verdict}
-use Rattle.meaning.specs.declared.Verdict.TheVariants.{Flat, Stacked, Refused}
-use Rattle.meaning.specs.declared.End.TheVariants as ends
-use Rattle.meaning.specs.declared.Answer.{Answer}
 use Rattle.meaning.specs.Machine.{Store}
-use Rattle.meaning.specs.Answers.{verdict_of, run_of, Ended}
+use Rattle.meaning.specs.Answers.{verdict_of, run_of, Ended, Answer, End, Verdict}
 use Rattle.meaning.specs.Cases.{Told, verdict, answer, told_of, cases, reversal, waiting, two_cells, reversed_cells}
 use Rattle.meaning.specs.WrongTurns.{turns}
 use Rattle.meaning.proofs.Cases.{all_cases}
 use Rattle.meaning.proofs.WrongTurns.{all_turns}
 
 -- the entry of a table at a place
-told_at : (i : ℕ) → get_or (map (λ c. told_of c.asked) cases) i (verdict (Stacked 0)) ≡ get_or (map (λ c. c.expected) cases) i (verdict (Stacked 0))
-told_at i = ap (λ l. get_or l i (verdict (Stacked 0))) all_cases
+told_at : (i : ℕ) → get_or (map (λ c. told_of c.asked) cases) i (verdict (Verdict.Stacked 0)) ≡ get_or (map (λ c. c.expected) cases) i (verdict (Verdict.Stacked 0))
+told_at i = ap (λ l. get_or l i (verdict (Verdict.Stacked 0))) all_cases
 
-turn_at : (i : ℕ) → get_or (map (λ c. told_of c.asked) turns) i (verdict (Stacked 0)) ≡ get_or (map (λ c. c.expected) turns) i (verdict (Stacked 0))
-turn_at i = ap (λ l. get_or l i (verdict (Stacked 0))) all_turns
+turn_at : (i : ℕ) → get_or (map (λ c. told_of c.asked) turns) i (verdict (Verdict.Stacked 0)) ≡ get_or (map (λ c. c.expected) turns) i (verdict (Verdict.Stacked 0))
+turn_at i = ap (λ l. get_or l i (verdict (Verdict.Stacked 0))) all_turns
 
 -- the parts of what is told
 abbrev ran : Told → Answer
-ran (verdict v) = record { end = ends.Done; value = 0; steps = 0; place = 0; frames = 0 }
+ran (verdict v) = record { end = End.Done; value = 0; steps = 0; place = 0; frames = 0 }
 ran (answer a s) = a
 
 abbrev cells : Told → Store
@@ -33,45 +29,45 @@ cells (verdict v) = []
 cells (answer a s) = s
 
 -- P1, the empty file, P11 with budgets 8, 7 and 1, P14
-P1 : verdict_of reversal ≡ Flat 1 1
+P1 : verdict_of reversal ≡ Verdict.Flat 1 1
 unfolding told_of
 P1 = let e = told_at 0 in cc
 
-not_empty : verdict_of [] ≡ Refused 2 0
+not_empty : verdict_of [] ≡ Verdict.Refused 2 0
 unfolding told_of
 not_empty = let e = told_at 8 in cc
 
 abbrev P11 : (budget : ℕ) → Ended
 P11 budget = run_of reversal (65536 ∷ 0 ∷ []) two_cells (replicate 4096 0) budget
 
-ran_8 : answer (P11 8).answer (P11 8).store ≡ answer (record { end = ends.Done; value = 65537; steps = 8; place = 0; frames = 1 }) reversed_cells
+ran_8 : answer (P11 8).answer (P11 8).store ≡ answer (record { end = End.Done; value = 65537; steps = 8; place = 0; frames = 1 }) reversed_cells
 unfolding told_of
 ran_8 = told_at 11
 
-ran_7 : answer (P11 7).answer (P11 7).store ≡ answer (record { end = ends.BudgetSpent; value = 0; steps = 7; place = 23; frames = 1 }) reversed_cells
+ran_7 : answer (P11 7).answer (P11 7).store ≡ answer (record { end = End.BudgetSpent; value = 0; steps = 7; place = 23; frames = 1 }) reversed_cells
 unfolding told_of
 ran_7 = told_at 12
 
-ran_1 : answer (P11 1).answer (P11 1).store ≡ answer (record { end = ends.BudgetSpent; value = 0; steps = 1; place = 29; frames = 1 }) two_cells
+ran_1 : answer (P11 1).answer (P11 1).store ≡ answer (record { end = End.BudgetSpent; value = 0; steps = 1; place = 29; frames = 1 }) two_cells
 unfolding told_of
 ran_1 = turn_at 6
 
 abbrev P14 : Ended
 P14 = run_of waiting [] [] (replicate 4096 0) 40
 
-ran_14 : answer P14.answer P14.store ≡ answer (record { end = ends.NoFrame; value = 0; steps = 32; place = 6; frames = 32 }) []
+ran_14 : answer P14.answer P14.store ≡ answer (record { end = End.NoFrame; value = 0; steps = 32; place = 6; frames = 32 }) []
 unfolding told_of
 ran_14 = told_at 17
 
-done_not_spent : ends.Done ≡ ends.BudgetSpent → ⊥
+done_not_spent : End.Done ≡ End.BudgetSpent → ⊥
 done_not_spent e = let z : ◌≡◌ {A = ℕ} 0 1 = cc in omega arith
 
-flat_not_refused : {n p : ℕ} → Flat 1 1 ≡ Refused n p → ⊥
+flat_not_refused : {n p : ℕ} → Verdict.Flat 1 1 ≡ Verdict.Refused n p → ⊥
 flat_not_refused e = let z : ◌≡◌ {A = ℕ} 0 1 = cc in omega arith
 
 module _ (check : List ℕ → Verdict) (meets : (file : List ℕ) → check file ≡ verdict_of file) where
   -- a checker that refuses everything
-  pub not_refusing_all : ((file : List ℕ) → (n p : ℕ) × (check file ≡ Refused n p)) → ⊥
+  pub not_refusing_all : ((file : List ℕ) → (n p : ℕ) × (check file ≡ Verdict.Refused n p)) → ⊥
   not_refusing_all all = flat_not_refused (sym P1 ∙ sym (meets reversal) ∙ (all reversal).2)
 
   -- one with a constant verdict
@@ -79,7 +75,7 @@ module _ (check : List ℕ → Verdict) (meets : (file : List ℕ) → check fil
   not_constant v all = flat_not_refused (sym P1 ∙ sym (meets reversal) ∙ all reversal ∙ sym (all []) ∙ meets [] ∙ not_empty)
 
   -- one that calls every file stacked
-  pub not_all_stacked : ((file : List ℕ) (d r : ℕ) → check file ≡ Flat d r → ⊥) → ⊥
+  pub not_all_stacked : ((file : List ℕ) (d r : ℕ) → check file ≡ Verdict.Flat d r → ⊥) → ⊥
   not_all_stacked none = none reversal 1 1 (meets reversal ∙ P1)
 
 abbrev Machine : Type 0
@@ -94,7 +90,7 @@ module _ (run : Machine) (meets : (file args store work : List ℕ) (budget : �
   met budget = meets reversal (65536 ∷ 0 ∷ []) two_cells (replicate 4096 0) budget
 
   -- a machine that moves nothing and says 32
-  pub not_idle : ((file args store work : List ℕ) (budget : ℕ) → (run file args store work budget).answer.end ≡ ends.BudgetSpent) → ⊥
+  pub not_idle : ((file args store work : List ℕ) (budget : ℕ) → (run file args store work budget).answer.end ≡ End.BudgetSpent) → ⊥
   not_idle all =
       done_not_spent (sym (ap (λ t. (ran t).end) ran_8) ∙ sym (ap (λ x. x.answer.end) (met 8)) ∙ all reversal (65536 ∷ 0 ∷ []) two_cells (replicate 4096 0) 8)
 

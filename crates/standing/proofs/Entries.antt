@@ -1,7 +1,7 @@
 -- What stands at a place as a mark: none where the file ends within it. Assumes nothing.
 use Prim.Native.Nat.{ℕ, ◌+◌, ◌≤◌, ◌<◌}
 use mathlib.Core.List.{List}
-use mathlib.Core.Path.{◌≡◌, refl, sym, ap, ◌∙◌}
+use mathlib.Core.Path.{◌≡◌, refl, ap}
 use native.Mathlib.Omega.{arith}
 use Rattle.std.specs.Prelude.{Option, None, Some}
 use lib.ListN.{length}
@@ -9,7 +9,6 @@ use borrow.Author.Tests.{lt-ltb, le-ltb}
 use Rattle.meaning.specs.Choice.{pick}
 use Rattle.meaning.specs.Marks.{find_mark}
 use Rattle.meaning.specs.declared.Mark.{Mark}
-use Rattle.meaning.specs.Marks.{place_of}
 use Rattle.meaning.proofs.Table.{one_place, place_below}
 use Rattle.standing.specs.Bytes.{mark_at, number_at, read_number}
 

@@ -5,7 +5,6 @@ use mathlib.Core.Path.{◌≡◌, refl, sym, ap, ◌∙◌, subst}
 use mathlib.Core.Logic.{◌⊎◌, ◌↔◌}
 use native.Mathlib.Omega.{arith}
 use lib.ListN.{length}
-use Rattle.meaning.specs.declared.Verdict.TheVariants as verdict
 use Rattle.meaning.specs.Syntax.{File}
 use Rattle.meaning.specs.Outcome.{Outcome, ok, refuse}
 use Rattle.meaning.specs.Reading.{read}
@@ -15,7 +14,7 @@ use Rattle.meaning.specs.Machine.{Store, Answer, function_of}
 use Rattle.meaning.specs.Decode.{plain, plain_args, mode_of}
 use Rattle.meaning.specs.Start.{In, Reached, chosen, is_owned, start, answer_to}
 use Rattle.meaning.specs.InPlace.{after, height, InPlace, value_word, begins, RunsInPlace}
-use Rattle.meaning.specs.Answers.{said, verdict_of, number, wiped, answered, run_of, Ended}
+use Rattle.meaning.specs.Answers.{said, verdict_of, number, wiped, answered, run_of, Ended, Verdict}
 use Rattle.theory.proofs.Answered.{answer_ended, answer_store, answer_few}
 use Rattle.theory.proofs.Flat.{flat_answer}
 use Rattle.theory.proofs.EveryCall.{every_call}
@@ -81,7 +80,7 @@ pub record RunsPlainly (file : File) (args : List ℕ) (store : Store) (budget :
   pub within : (r.answer.steps ≤ budget) × (r.answer.frames ≤ 32)
 
 pub record JudgesAndRuns (bytes : List ℕ) : Type 0 where
-  pub other_layout : (n p : ℕ) → read bytes ≡ refuse n p → (verdict_of bytes ≡ verdict.Refused n p) × (1 ≤ n) × (n ≤ 6)
+  pub other_layout : (n p : ℕ) → read bytes ≡ refuse n p → (verdict_of bytes ≡ Verdict.Refused n p) × (1 ≤ n) × (n ≤ 6)
   pub judges : (file : File) → read bytes ≡ ok file → Judged bytes file
   pub runs : (file : File) → accepted bytes ≡ ok file → (args : List ℕ) (store : Store) (work : List ℕ) (budget : ℕ) → start file (length work) args store ≡ ok tt
       → RunsPlainly file args store budget (run_of bytes args store work budget)
@@ -122,7 +121,7 @@ pub record StaysInPlace (bytes : List ℕ) (file : File) (args : List ℕ) (stor
   pub at_end : (budget : ℕ) → number (run_of bytes args store work budget).answer.end ≡ 0
       → InPlace file.constructors in_place.start store (run_of bytes args store work budget).store
       (value_word (function_of file 0).result (run_of bytes args store work budget).answer.value) []
-  pub shallow : (D R : ℕ) → verdict_of bytes ≡ verdict.Flat D R
+  pub shallow : (D R : ℕ) → verdict_of bytes ≡ Verdict.Flat D R
       → ((n : ℕ) → height (after file n (begins file args store)) ≤ D)
       × ((budget : ℕ) → ((run_of bytes args store work budget).answer.frames ≤ D) × (number (run_of bytes args store work budget).answer.end ≡ 33 → ⊥))
 

@@ -7,25 +7,23 @@ use mathlib.Core.Logic.{◌⊎◌, inl, inr, ⊎_elim}
 use native.Mathlib.Omega.{arith}
 use lib.Dec.{ltb}
 use borrow.Author.Tests.{eq-eqb, ne_eqb, lt-ltb, le-ltb, le-leb, lt-leb}
-use Rattle.meaning.specs.declared.End.{End}
-use Rattle.meaning.specs.declared.End.TheVariants as end
 use Rattle.meaning.specs.Choice.{pick}
 use Rattle.meaning.specs.Syntax.{File}
 use Rattle.meaning.specs.Plain.{Run, value, stop}
 use Rattle.meaning.specs.Machine.{Answer, function_of}
 use Rattle.meaning.specs.Decode.{plain, mode_of, as_plain}
-use Rattle.meaning.specs.Answers.{number, end_of, wiped, left_in, answered}
+use Rattle.meaning.specs.Answers.{number, end_of, wiped, left_in, answered, End}
 use Rattle.meaning.specs.Answers as A
 use Rattle.theory.proofs.StartCounting.{same?}
 
 -- every number has its end, and the end has that number
 data EndedSo (n : ℕ) : End → Type 0 where
-  done : n ≡ 0 → EndedSo n end.Done
-  no_branch : n ≡ 31 → EndedSo n end.NoBranch
-  budget_spent : n ≡ 32 → EndedSo n end.BudgetSpent
-  no_frame : n ≡ 33 → EndedSo n end.NoFrame
-  out_of_range : n ≡ 34 → EndedSo n end.OutOfRange
-  refused : (n ≡ 0 → ⊥) → EndedSo n (end.Refused n)
+  done : n ≡ 0 → EndedSo n End.Done
+  no_branch : n ≡ 31 → EndedSo n End.NoBranch
+  budget_spent : n ≡ 32 → EndedSo n End.BudgetSpent
+  no_frame : n ≡ 33 → EndedSo n End.NoFrame
+  out_of_range : n ≡ 34 → EndedSo n End.OutOfRange
+  refused : (n ≡ 0 → ⊥) → EndedSo n (End.Refused n)
 
 ended_so : (n : ℕ) → EndedSo n (end_of n)
 unfolding end_of pick
@@ -66,12 +64,12 @@ number_end n = number_so (ended_so n)
 abbrev pub plainly : File → A.Ended → Run
 plainly file r =
     elim r.answer.end [
-      | end.Done ↦ value (plain file.constructors r.store (mode_of (function_of file 0).result) r.answer.value) r.answer.steps r.answer.frames
-      | end.Refused n ↦ stop n r.answer.place r.answer.steps r.answer.frames
-      | end.NoBranch ↦ stop 31 r.answer.place r.answer.steps r.answer.frames
-      | end.BudgetSpent ↦ stop 32 r.answer.place r.answer.steps r.answer.frames
-      | end.NoFrame ↦ stop 33 r.answer.place r.answer.steps r.answer.frames
-      | end.OutOfRange ↦ stop 34 r.answer.place r.answer.steps r.answer.frames
+      | End.Done ↦ value (plain file.constructors r.store (mode_of (function_of file 0).result) r.answer.value) r.answer.steps r.answer.frames
+      | End.Refused n ↦ stop n r.answer.place r.answer.steps r.answer.frames
+      | End.NoBranch ↦ stop 31 r.answer.place r.answer.steps r.answer.frames
+      | End.BudgetSpent ↦ stop 32 r.answer.place r.answer.steps r.answer.frames
+      | End.NoFrame ↦ stop 33 r.answer.place r.answer.steps r.answer.frames
+      | End.OutOfRange ↦ stop 34 r.answer.place r.answer.steps r.answer.frames
     ]
 
 pub plainly_is : (file : File) (a : Answer) (work : List ℕ) → plainly file (answered a work) ≡ as_plain file a
@@ -91,7 +89,7 @@ plainly_is file a work = go (ended_so a.answer)
     other (suc n) q = refl
 
     go : {n : ℕ} {e : End} → EndedSo n e
-        → ◌≡◌ {A = Run} (elim e [ end.Done ↦ v | end.Refused m ↦ s m | end.NoBranch ↦ s 31 | end.BudgetSpent ↦ s 32 | end.NoFrame ↦ s 33 | end.OutOfRange ↦ s 34 ])
+        → ◌≡◌ {A = Run} (elim e [ End.Done ↦ v | End.Refused m ↦ s m | End.NoBranch ↦ s 31 | End.BudgetSpent ↦ s 32 | End.NoFrame ↦ s 33 | End.OutOfRange ↦ s 34 ])
         (elim n [ zero ↦ v | suc k ↦ s (suc k) ])
     go {n} (EndedSo.done q) = rw q
     go {n} (EndedSo.no_branch q) = later n 30 q

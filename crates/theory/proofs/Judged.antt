@@ -4,8 +4,6 @@ use mathlib.Core.List.{List}
 use mathlib.Core.Path.{◌≡◌, refl, sym, ap, ◌∙◌}
 use mathlib.Core.Logic.{◌↔◌}
 use native.Mathlib.Omega.{arith}
-use Rattle.meaning.specs.declared.Verdict.{Verdict}
-use Rattle.meaning.specs.declared.Verdict.TheVariants as verdict
 use Rattle.meaning.specs.Syntax.{File}
 use Rattle.meaning.specs.Outcome.{Outcome, ok, refuse}
 use Rattle.meaning.specs.Reading.{read}
@@ -14,7 +12,7 @@ use Rattle.meaning.specs.Derivation.{Derivable}
 use Rattle.meaning.specs.Calls.{square, Flat, IsDepth, IsReached, Shape, flat, stacked, shape}
 use Rattle.meaning.specs.Verdict.{accepted}
 use Rattle.meaning.specs.Verdict as checking
-use Rattle.meaning.specs.Answers.{said, told, verdict_of}
+use Rattle.meaning.specs.Answers.{said, told, verdict_of, Verdict}
 use Rattle.theory.proofs.Taking.{refused}
 use Rattle.theory.proofs.Agree.{agreement}
 use Rattle.theory.proofs.Shapes.{shape_flat, shape_stacked}
@@ -25,39 +23,39 @@ verdict_read : (bytes : List ℕ) (file : File) → read bytes ≡ ok file → c
 unfolding verdict_of checking.verdict accepted
 verdict_read bytes file r c = rw (r, c, accepted, checking.verdict)
 
-verdict_faulty : (bytes : List ℕ) (file : File) (n p : ℕ) → read bytes ≡ ok file → check_file file ≡ refuse n p → verdict_of bytes ≡ verdict.Refused n p
+verdict_faulty : (bytes : List ℕ) (file : File) (n p : ℕ) → read bytes ≡ ok file → check_file file ≡ refuse n p → verdict_of bytes ≡ Verdict.Refused n p
 unfolding verdict_of checking.verdict accepted
 verdict_faulty bytes file n p r c = rw (r, c, accepted, checking.verdict)
 
-verdict_unread : (bytes : List ℕ) (n p : ℕ) → read bytes ≡ refuse n p → verdict_of bytes ≡ verdict.Refused n p
+verdict_unread : (bytes : List ℕ) (n p : ℕ) → read bytes ≡ refuse n p → verdict_of bytes ≡ Verdict.Refused n p
 unfolding verdict_of checking.verdict accepted
 verdict_unread bytes n p r = rw (r, accepted, checking.verdict)
 
 -- what a file of another layout is answered
-pub unread : (bytes : List ℕ) (n p : ℕ) → read bytes ≡ refuse n p → (verdict_of bytes ≡ verdict.Refused n p) × (1 ≤ n) × (n ≤ 6)
+pub unread : (bytes : List ℕ) (n p : ℕ) → read bytes ≡ refuse n p → (verdict_of bytes ≡ Verdict.Refused n p) × (1 ≤ n) × (n ≤ 6)
 unread bytes n p e = let b = read_refuses bytes n p e in (verdict_unread bytes n p e, b.0, b.1)
 
 pub record Judged (bytes : List ℕ) (file : File) : Type 0 where
   pub accepts : ((said (verdict_of bytes)).number ≡ 0) ↔ Derivable file
-  pub is_flat : (D R : ℕ) → (verdict_of bytes ≡ verdict.Flat D R) ↔ (Derivable file × (Flat (square file) × IsDepth (square file) D × IsReached (square file) R))
-  pub is_stacked : (R : ℕ) → (verdict_of bytes ≡ verdict.Stacked R) ↔ (Derivable file × ((Flat (square file) → ⊥) × IsReached (square file) R))
-  pub names : (Derivable file → ⊥) → (n p : ℕ) × (7 ≤ n) × (n ≤ 12) × (check_file file ≡ refuse n p) × (verdict_of bytes ≡ verdict.Refused n p)
+  pub is_flat : (D R : ℕ) → (verdict_of bytes ≡ Verdict.Flat D R) ↔ (Derivable file × (Flat (square file) × IsDepth (square file) D × IsReached (square file) R))
+  pub is_stacked : (R : ℕ) → (verdict_of bytes ≡ Verdict.Stacked R) ↔ (Derivable file × ((Flat (square file) → ⊥) × IsReached (square file) R))
+  pub names : (Derivable file → ⊥) → (n p : ℕ) × (7 ≤ n) × (n ≤ 12) × (check_file file ≡ refuse n p) × (verdict_of bytes ≡ Verdict.Refused n p)
 
 -- verdicts are different
 abbrev sort_of : Verdict → ℕ
-sort_of (verdict.Flat d r) = 0
-sort_of (verdict.Stacked r) = 1
-sort_of (verdict.Refused n p) = 2
+sort_of (Verdict.Flat d r) = 0
+sort_of (Verdict.Stacked r) = 1
+sort_of (Verdict.Refused n p) = 2
 
 told_number : (s : Shape) → (said (told (ok s))).number ≡ 0
 told_number (flat d r) = refl
 told_number (stacked r) = refl
 
-told_flat : (s : Shape) (D R : ℕ) → told (ok s) ≡ verdict.Flat D R → s ≡ flat D R
+told_flat : (s : Shape) (D R : ℕ) → told (ok s) ≡ Verdict.Flat D R → s ≡ flat D R
 told_flat (flat d r) D R e = let p : d ≡ D = ap (λ v. (said v).depth) e in let q : r ≡ R = ap (λ v. (said v).reached) e in λ i. flat (p i) (q i)
 told_flat (stacked r) D R e = absurd (omega (arith, ap sort_of e))
 
-told_stacked : (s : Shape) (R : ℕ) → told (ok s) ≡ verdict.Stacked R → s ≡ stacked R
+told_stacked : (s : Shape) (R : ℕ) → told (ok s) ≡ Verdict.Stacked R → s ≡ stacked R
 told_stacked (flat d r) R e = absurd (omega (arith, ap sort_of e))
 told_stacked (stacked r) R e = ap stacked (ap (λ v. (said v).reached) e)
 
@@ -96,7 +94,7 @@ verdict_accepted : (bytes : List ℕ) (file : File) → accepted bytes ≡ ok fi
 unfolding verdict_of checking.verdict
 verdict_accepted bytes file e = rw (e, checking.verdict)
 
-pub flat_shape : (bytes : List ℕ) (file : File) (D R : ℕ) → accepted bytes ≡ ok file → verdict_of bytes ≡ verdict.Flat D R → shape file ≡ flat D R
+pub flat_shape : (bytes : List ℕ) (file : File) (D R : ℕ) → accepted bytes ≡ ok file → verdict_of bytes ≡ Verdict.Flat D R → shape file ≡ flat D R
 flat_shape bytes file D R a v = told_flat (shape file) D R (sym (verdict_accepted bytes file a) ∙ v)
 
 -- a verdict on a file that was read

@@ -5,8 +5,6 @@ use mathlib.Core.Path.{◌≡◌, refl, sym, ap, ◌∙◌}
 use mathlib.Core.Logic.{◌⊎◌, ⊎_elim}
 use native.Mathlib.Omega.{arith}
 use lib.ListN.{length}
-use Rattle.meaning.specs.declared.End.TheVariants as ends
-use Rattle.meaning.specs.declared.Answer.{Answer}
 use Rattle.meaning.specs.Choice.{pick}
 use Rattle.meaning.specs.Syntax.{File}
 use Rattle.meaning.specs.Outcome.{Outcome, ok, refuse}
@@ -14,7 +12,7 @@ use Rattle.meaning.specs.Verdict.{accepted}
 use Rattle.meaning.specs.Plain.{place_of}
 use Rattle.meaning.specs.Machine.{Store, run, answers, body_of}
 use Rattle.meaning.specs.Start.{start}
-use Rattle.meaning.specs.Answers.{end_of, number, wiped, ended, run_of}
+use Rattle.meaning.specs.Answers.{end_of, number, wiped, ended, run_of, Answer, End}
 use Rattle.theory.proofs.SoundAnswers.{Refusal}
 use Rattle.theory.proofs.StartCounting.{le?}
 use Rattle.theory.proofs.StartExact.{start_answers}
@@ -22,7 +20,7 @@ use Rattle.theory.proofs.Running.{refused_file, refused_size, refused_start, exe
 
 -- 32 at a place, with no step and one frame
 abbrev pub untaken : (place : ℕ) → Answer
-untaken p = record { end = ends.BudgetSpent; value = 0; steps = 0; place = p; frames = 1 }
+untaken p = record { end = End.BudgetSpent; value = 0; steps = 0; place = p; frames = 1 }
 
 module _ (bytes args : List ℕ) (store : Store) (work : List ℕ) where
   -- M-103: "with budget 0 it is checked, no node begins, and the answer is 32 at the first node": the store is as lent, the work area's first

@@ -6,8 +6,6 @@ use mathlib.Core.Logic.{◌⊎◌, inl, inr, ⊎_elim}
 use native.Mathlib.Omega.{arith}
 use lib.ListN.{length}
 use borrow.Author.Tests.{ne_eqb}
-use Rattle.meaning.specs.declared.End.TheVariants as ends
-use Rattle.meaning.specs.declared.Answer.{Answer}
 use Rattle.meaning.specs.Choice.{pick}
 use Rattle.meaning.specs.Syntax.{File}
 use Rattle.meaning.specs.Outcome.{ok, refuse}
@@ -16,7 +14,7 @@ use Rattle.meaning.specs.Machine.{Store, run, answers}
 use Rattle.meaning.specs.Machine as M
 use Rattle.meaning.specs.InPlace.{begins}
 use Rattle.meaning.specs.Start.{start, answer_to}
-use Rattle.meaning.specs.Answers.{end_of, wiped, left_in, ended, answered, run_of}
+use Rattle.meaning.specs.Answers.{end_of, wiped, left_in, ended, answered, run_of, Answer, End}
 use Rattle.theory.proofs.Ends.{left_kept, left_wiped}
 use Rattle.theory.proofs.SoundAnswers.{Refusal, ran}
 use Rattle.theory.proofs.StartCounting.{le?, same?}
@@ -24,12 +22,12 @@ use Rattle.theory.proofs.Refusals.{accepted_numbers}
 
 -- the answer of a refusal, and of the steps
 abbrev pub refusal : (number place : ℕ) → Answer
-refusal n p = record { end = ends.Refused n; value = 0; steps = 0; place = p; frames = 0 }
+refusal n p = record { end = End.Refused n; value = 0; steps = 0; place = p; frames = 0 }
 
 abbrev pub stepped : M.Answer → Answer
 stepped a = record { end = end_of a.answer; value = a.value; steps = a.steps; place = a.place; frames = a.frames }
 
-refused_end : (n : ℕ) → 1 ≤ n → n ≤ 24 → end_of n ≡ ends.Refused n
+refused_end : (n : ℕ) → 1 ≤ n → n ≤ 24 → end_of n ≡ End.Refused n
 unfolding end_of pick
 refused_end n l m =
     rw (ne_eqb n 0 (λ e. omega arith), ne_eqb n 31 (λ e. omega arith), ne_eqb n 32 (λ e. omega arith), ne_eqb n 33 (λ e. omega arith), ne_eqb n 34 (λ e. omega arith))

@@ -19,23 +19,28 @@ use Rattle.meaning.specs.Ownership.{check, check_bodies, check_file, no_function
 use Rattle.meaning.specs.Ownership as tree
 use Rattle.meaning.specs.Calls.{calls}
 use Rattle.meaning.specs.Verdict.{accepted}
-use Rattle.standing.specs.Bytes.{byte_at, params_in, modes_in}
+use Rattle.standing.specs.Bytes.{byte_at, params_in, modes_in, result_in}
 use Rattle.standing.specs.Stands.{Stands}
 use Rattle.standing.specs.Table.{con_words, con_end, fun_words, filled, table_of, sort_byte, Sorts, Modes, Declared}
 use Rattle.standing.proofs.Declaring.{read_declared}
 use Rattle.standing.proofs.Faults.{check_file_inside}
-use Rattle.checker.specs.declared.reading.Read.{Read}
-use Rattle.checker.specs.declared.reading.Read.TheVariants.{Next, Fault}
-use Rattle.checker.specs.declared.reading.Reached.{Reached}
+use Rattle.meaning.specs.declared.Fault as faults
+use Rattle.meaning.specs.declared.Refusal.{Refusal}
+use Rattle.meaning.specs.Answers.{fault_number}
+use Rattle.checker.specs.declared.reading.Header.{Header}
+use Rattle.std.specs.Prelude.{Option, None, Some, Result, Ok, Err}
+use Rattle.checker.specs.Read.{Read, Next, Fault, as_read, refusal}
+use Rattle.meaning.proofs.Told.{fault_some}
+use Rattle.checker.proofs.ownership.Turns.{sort_is}
 use Rattle.checker.specs.ReadingBytes.{path, known_count, expect_at, end_at}
 use Rattle.checker.specs.Opening.{table_with, HeaderRead, Bodied, ReadsBody, Ends}
 use Rattle.checker.specs.Filled as front
 use Rattle.checker.specs.Noting.{note_calls, words_of}
-use Rattle.checker.specs.Slots.{slots_of, unbound}
-use Rattle.checker.specs.Ownership.{result_in, laid_of, bound_of}
+use Rattle.checker.specs.Slots.{slots_of, unbound, sort_at, sort_number}
+use Rattle.checker.specs.Ownership.{laid_of, bound_of}
 use Rattle.checker.specs.OwnershipReady.{spanned, Known, Ready, Judged, Noted, ReadyBody, JudgedBody, NotedBody}
 use Rattle.checker.specs.Paths.{Head, term, Leads, body, Placed}
-use Rattle.checker.specs.Bodies.{Told, Passable, Passed, PassedBody, Finished}
+use Rattle.checker.specs.Bodies.{Told, Passable, Passed, PassedBody, Finished, number_in, place_in}
 use Rattle.checker.proofs.reading.Tabled.{fill_wide, con_count, fun_count}
 use Rattle.checker.proofs.reading.Steps.{fault_next, from_le, from_next, from_fault, expect_next}
 use Rattle.checker.proofs.reading.Body.{too_long, body_fails, body_goes, body_here, expect_off, from_end, end_fails, end_reads, said}
@@ -47,16 +52,20 @@ use Rattle.checker.proofs.bodies.Placing.{start_places}
 use Rattle.checker.proofs.bodies.Telling.{zero_or, told_next, told_fault, told_on}
 
 -- ---- one body
+-- the sort of its result, as a number
+abbrev pub result_by : (f d : List ℕ) → (j : ℕ) → ℕ
+result_by f d j = sort_number (sort_at (result_in f d j))
+
 module _ (f d : List ℕ) (at j : ℕ) where
   count_is : (g : ReadyBody f d at j) → params_in d j ≡ length (function_of g.file j).parameters
   count_is g = g.declared.parameters j g.low
 
-  body_ready : ReadyBody f d at j → Ready f d (at + 2) (result_in f d j) (params_in d j)
+  body_ready : ReadyBody f d at j → Ready f d (at + 2) (result_by f d j) (params_in d j)
   body_ready g = record {
     file = g.file;
     declared = g.declared;
     sort = (function_of g.file j).result;
-    wanted = sym (g.declared.result j g.low).0;
+    wanted = sym (ap (λ x. sort_number (sort_at x)) (g.declared.result j g.low).0 ∙ sort_is (function_of g.file j).result);
     term = g.term;
     next = g.next;
     here = g.here;
@@ -78,7 +87,7 @@ module _ (f d : List ℕ) (at j : ℕ) where
       ∙ laid_tells f 1 place ms (modes_in d j) 0 (replicate 32 unbound) (modes_scaled f (modes_in d j) ms (g.declared.modes j g.low)) l
 
   body_judged : (place : ℕ) (r : Read)
-      → Judged f d (at + 2) (result_in f d j) (laid_of f 1 place (params_in d j) (modes_in d j) 0 (replicate 32 unbound)) (params_in d j) r
+      → Judged f d (at + 2) (result_by f d j) (laid_of f 1 place (params_in d j) (modes_in d j) 0 (replicate 32 unbound)) (params_in d j) r
       → JudgedBody f d at j r
   unfolding body_ready
   body_judged place r J = record {
@@ -87,7 +96,7 @@ module _ (f d : List ℕ) (at j : ℕ) where
         ∙ ap (λ s. spanned g.next (check g.file.constructors g.file.functions (function_of g.file j).result g.term s)) (start_slots place g);
   }
 
-  body_noted : {w w' : ℕ} → Noted f d (at + 2) (result_in f d j) (params_in d j) w w' → NotedBody f d at j w w'
+  body_noted : {w w' : ℕ} → Noted f d (at + 2) (result_by f d j) (params_in d j) w w' → NotedBody f d at j w w'
   unfolding body_ready
   body_noted N = record { noted = λ g. N.noted (body_ready g) j }
 
@@ -106,7 +115,7 @@ module _ (f d : List ℕ) (at j : ℕ) where
     known_is = rw (lt-ltb j 32 low)
 
     body_passed : {w x q w' x' q' : ℕ} (place : ℕ) (r : Read) → expect_at f at 2 ≡ Next (at + 2)
-        → Passed f d (at + 2) (result_in f d j) (laid_of f 1 place (params_in d j) (modes_in d j) 0 (replicate 32 unbound)) (path (params_in d j) 0) w x q w' x' q' r
+        → Passed f d (at + 2) (result_by f d j) (laid_of f 1 place (params_in d j) (modes_in d j) 0 (replicate 32 unbound)) (path (params_in d j) 0) w x q w' x' q' r
         → PassedBody f d at j w x q w' x' q' r
     unfolding ReadsBody
     body_passed place r e P = record {
@@ -131,7 +140,7 @@ module _ (f d : List ℕ) (at j : ℕ) where
           let b : Leads f d (term (at + 2)) (path (params_in d j) 0) (replicate (params_in d j) g.place) = body at g (es ∙ ap Next y.0) in
           record { leads = subst (Leads f d (term start) (path n 0)) (sym (q ∙ ap (replicate n) z)) (rw (y.0, en) b) }
 
-      pub made_passed : {w x q w' x' q' : ℕ} (place m res : ℕ) (fresh slots : List Slot) (r : Read) → m ≡ modes_in d j → res ≡ result_in f d j → fresh ≡ replicate 32 unbound
+      pub made_passed : {w x q w' x' q' : ℕ} (place m res : ℕ) (fresh slots : List Slot) (r : Read) → m ≡ modes_in d j → res ≡ result_by f d j → fresh ≡ replicate 32 unbound
           → slots ≡ bound_of f 1 place n m 0 fresh 0 → Passed f d start res slots (path n 0) w x q w' x' q' r → PassedBody f d at j w x q w' x' q' r
       unfolding bound_of pick
       made_passed place m res fresh slots r em er ef el P =
@@ -300,53 +309,58 @@ pub accepted_fine : (f : List ℕ) (file : File) → read f ≡ ok file → chec
 unfolding accepted
 accepted_fine f file e c = rw (e, c, accepted)
 
-finished_unread : (f d c : List ℕ) (r : Reached) → 0 < r.number → read f ≡ refuse r.number r.at → r.at ≤ 4096 → Finished f d c r
-finished_unread f d c r a b h = record {
-  fine = λ z. absurd (omega (arith, a, z));
-  refused = λ _. (accepted_unread f r.number r.at b, h);
-}
+finished_unread : (f d c : List ℕ) (r : Refusal) → read f ≡ refuse (fault_number r.fault) r.place → r.place ≤ 4096 → Finished f d c (Err r)
+finished_unread f d c r b h = (accepted_unread f (fault_number r.fault) r.place b, h)
 
-pub finished_long : (f d c : List ℕ) (count : ℕ) → 4096 < length f → Finished f d c (record { count = count; at = 0; number = 1 })
-finished_long f d c count h = finished_unread f d c _ (omega arith) (too_long f h) (omega arith)
+pub finished_long : (f d c : List ℕ) → 4096 < length f → Finished f d c (Err (refusal faults.Fault.TooLong 0))
+finished_long f d c h = finished_unread f d c (refusal faults.Fault.TooLong 0) (too_long f h) (omega arith)
 
-pub header_stops : (f d d' c : List ℕ) (r : Reached) → HeaderRead f d r → (r.number ≡ 0 → ⊥) → Finished f d' c r
+pub header_stops : (f d d' c : List ℕ) {r : Result Header Refusal} (e : Refusal) → HeaderRead f d r → r ≡ Err e → Finished f d' c (Err e)
 unfolding HeaderRead
-header_stops f d d' c r H n = ⊎_elim (λ x. absurd (n x.0)) (λ x. finished_unread f d' c r x.0 x.1 x.2) H
+header_stops f d d' c e H is = let x = subst (HeaderRead f d) is H in finished_unread f d' c e x.1 x.2
+
+pub header_goes : (f d : List ℕ) {r : Result Header Refusal} (h : Header) → HeaderRead f d r → r ≡ Ok h → Bodied f d h.count 0 h.at
+unfolding HeaderRead
+header_goes f d h H is = subst (HeaderRead f d) is H
 
 -- a body does not read
-pub body_refused : (f d : List ℕ) (count j at : ℕ) → length f ≤ 4096 → (C : Bodied f d count j at) → j < count → (d' c : List ℕ) {r : Read} {w x q w' x' q' : ℕ} (k s : ℕ)
-    → r ≡ Fault k s → PassedBody f d at j w x q w' x' q' r → Finished f d' c (record { count = count; at = s; number = k })
-body_refused f d count j at h C l d' c k s e P =
-    let z = from_fault e P.from in
-    finished_unread f d' c _ z.0 (body_fails f d count j at C l k s (subst (ReadsBody f d at j) e P.reads)) (omega (arith, z.1, h))
+pub body_refused : (f d : List ℕ) (count j at : ℕ) → length f ≤ 4096 → (C : Bodied f d count j at) → j < count → (d' c : List ℕ) {r : Result ℕ Refusal} {w x q w' x' q' : ℕ} (e : Refusal)
+    → r ≡ Err e → PassedBody f d at j w x q w' x' q' (as_read r) → Finished f d' c (Err e)
+body_refused f d count j at h C l d' c e is P =
+    let i = ap as_read is in
+    let z = from_fault i P.from in
+    finished_unread f d' c e (body_fails f d count j at C l (fault_number e.fault) e.place (subst (ReadsBody f d at j) i P.reads)) (omega (arith, z.1, h))
 
 -- the end of the file
-pub end_refused : (f d c : List ℕ) (count at : ℕ) → length f ≤ 4096 → Bodied f d count count at → (k s : ℕ) → end_at f at ≡ Fault k s
-    → Finished f d c (record { count = count; at = s; number = k })
+pub end_refused : (f d c : List ℕ) (count at : ℕ) → length f ≤ 4096 → Bodied f d count count at → {r : Result ℕ Refusal} (e : Refusal) → as_read r ≡ end_at f at → r ≡ Err e
+    → Finished f d c (Err e)
 unfolding Ends
-end_refused f d c count at h C k s e =
-    let z = from_fault e (from_end f at C.inside) in
-    ⊎_elim (λ w. absurd (omega (arith, w.0, z.0))) (λ w. finished_unread f d c _ w.0 w.1 w.2) (end_fails f d count at h C k s e)
+end_refused f d c count at h C e reads is =
+    let i = sym reads ∙ ap as_read is in
+    let z = from_fault i (from_end f at C.inside) in
+    ⊎_elim (λ w. absurd (omega (arith, w.0, z.0))) (λ w. finished_unread f d c e w.1 w.2) (end_fails f d count at h C (fault_number e.fault) e.place i)
 
 -- a file that reads, by the first fault
-read_finished : (f d c : List ℕ) (count x q : ℕ) (file : File) → read f ≡ ok file → d ≡ table_of file → length file.functions ≡ count → Left f c count x q
-    → Finished f d c (record { count = count; at = q; number = x })
-read_finished f d c count x q file e t n l = record {
-  fine = λ z. (file, accepted_fine f file e (none_left f count l z file e (omega (arith, n))), t, all_noted f count l z file e n);
-  refused = λ k.
+module _ (f d c : List ℕ) (count : ℕ) (n : Option Refusal) (l : Left f c count (number_in n) (place_in n)) (file : File) (e : read f ≡ ok file) (t : d ≡ table_of file) (m : length file.functions ≡ count) where
+  read_fine : n ≡ None → Finished f d c (Ok tt)
+  read_fine is = let z = ap number_in is in (file, accepted_fine f file e (none_left f count l z file e (omega (arith, m))), t, all_noted f count l z file e m)
+
+  read_faulty : (r : Refusal) → n ≡ Some r → Finished f d c (Err r)
+  read_faulty r is =
       let D = read_declared f file e in
-      let y = l.found k file e in
-      (accepted_read f file x q e y, omega (arith, check_file_inside file f (table_of file) D y, D.size));
-}
+      let k : number_in n ≡ 0 → ⊥ = λ z. fault_some r.fault (sym (ap number_in is) ∙ z) in
+      let y = l.found k file e ∙ (λ i. refuse (number_in (is i)) (place_in (is i))) in
+      (accepted_read f file (fault_number r.fault) r.place e y, omega (arith, check_file_inside file f (table_of file) D y, D.size))
 
-pub end_finished : (f d c : List ℕ) (count at : ℕ) → length f ≤ 4096 → Bodied f d count count at → (x q : ℕ) → Left f c count x q → (n : ℕ) → end_at f at ≡ Next n
-    → Finished f d c (record { count = count; at = q; number = x })
-unfolding Ends
-end_finished f d c count at h C x q l n e =
-    ⊎_elim
-    (λ w. read_finished f d c count x q w.1 w.2 w.3 w.4 l)
-    (λ w. absurd (omega (arith, w.0)))
-    (end_reads f d count at h C n e)
+module _ (f d c : List ℕ) (count at : ℕ) (h : length f ≤ 4096) (C : Bodied f d count count at) (n : Option Refusal) (l : Left f c count (number_in n) (place_in n))
+    (r : Result ℕ Refusal) (k : ℕ) (reads : as_read r ≡ end_at f at) (is : r ≡ Ok k) where
+  ends : Ends f d count k 0
+  ends = end_reads f d count at h C k (sym reads ∙ ap as_read is)
 
-pub all_checked : {f c : List ℕ} {count j x q : ℕ} → j ≤ count → count ≤ j → Left f c j x q → Left f c count x q
-all_checked {f} {c} {count} {j} {x} {q} h l L = let e : j ≡ count = omega arith in subst (λ n. Left f c n x q) e L
+  pub end_fine : n ≡ None → Finished f d c (Ok tt)
+  unfolding Ends
+  end_fine e = ⊎_elim (λ w. read_fine f d c count n l w.1 w.2 w.3 w.4 e) (λ w. absurd (omega (arith, w.0))) ends
+
+  pub end_faulty : (x : Refusal) → n ≡ Some x → Finished f d c (Err x)
+  unfolding Ends
+  end_faulty x e = ⊎_elim (λ w. read_faulty f d c count n l w.1 w.2 w.3 w.4 x e) (λ w. absurd (omega (arith, w.0))) ends

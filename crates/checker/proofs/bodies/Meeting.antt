@@ -12,10 +12,9 @@ use Rattle.meaning.specs.Choice.{pick}
 use Rattle.meaning.specs.Marks.{row_at, find_mark}
 use Rattle.standing.specs.Bytes.{byte_at, mark_at, arity_in, params_in}
 use Rattle.checker.specs.declared.reading.Path.{Path}
-use Rattle.checker.specs.declared.reading.Node.{Node}
-use Rattle.checker.specs.declared.reading.Then.TheVariants as then
-use Rattle.checker.specs.declared.reading.Read.{Read}
-use Rattle.checker.specs.declared.reading.Read.TheVariants.{Next, Fault}
+use Rattle.checker.specs.Node.{Node}
+use Rattle.checker.specs.Node as then
+use Rattle.checker.specs.Read.{Read, Next, Fault}
 use Rattle.checker.specs.ReadingBytes.{binds_of, known_arity, known_count, room, atom_field, make_fields, call_fields, open_fields, sum_fields, fields_at, follows_at, path, node, limited, after_fields, node_of, node_at, more_of, fitting, branch_fields_by, branch_by, branch_at}
 use Rattle.checker.specs.Ownership.{first_place, second_place, named_by, past_of, then_of, credits_of}
 use Rattle.checker.proofs.reading.Steps.{next_is, fault_next, from_next, from_fields}

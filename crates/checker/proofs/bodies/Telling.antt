@@ -2,13 +2,24 @@
 -- a row. Assumes nothing.
 use Prim.Native.Nat.{ℕ}
 use mathlib.Core.Bool.{Bool, true, false}
-use mathlib.Core.Path.{◌≡◌, refl, sym, ◌∙◌, subst}
+use mathlib.Core.Path.{◌≡◌, refl, sym, ap, ◌∙◌, subst}
 use lib.Dec.{eqb}
 use borrow.Author.Tests.{eqb-true, eqb-false, eq-eqb, ne_eqb}
 use Rattle.meaning.specs.Choice.{pick}
-use Rattle.checker.specs.declared.reading.Read.{Read}
-use Rattle.checker.specs.declared.reading.Read.TheVariants.{Next, Fault}
-use Rattle.checker.specs.Bodies.{fault_after, place_after, told_by, Told}
+use Rattle.checker.specs.Read.{Read, Next, Fault}
+use Rattle.std.specs.Prelude.{Option, None, Some}
+use Rattle.std.specs.Option.{option_or}
+use Rattle.meaning.specs.declared.Refusal.{Refusal}
+use Rattle.meaning.specs.declared.Fault as faults
+use Rattle.checker.specs.Bits.{bits_of}
+use Rattle.checker.specs.Slots.{digit}
+use Rattle.checker.specs.Ownership.{repeat_of, repeated}
+use native.Mathlib.Omega.{arith}
+use Prim.Native.Nat.{◌≤◌}
+use lib.ListN.{get_or}
+use Rattle.meaning.specs.Answers.{fault_number}
+use Rattle.checker.specs.Bodies.{fault_after, place_after, told_by, Told, number_in, place_in}
+use Rattle.meaning.proofs.Told.{fault_some}
 
 -- a number is 0 or not
 pub zero_or : {A : Type 0} (x : ℕ) → (x ≡ 0 → A) → ((x ≡ 0 → ⊥) → A) → A
@@ -94,3 +105,38 @@ told_both {J = J} {L = L} {b = b} {n = n} {x = x} {y = y} {z = z} s j k m t = re
       zero_or y (λ o.
       zero_or x (λ i. m (subst J (told_next b y z o) (s.first i)) (s.calls o) (t.calls e)) (λ i. absurd (i (sym (s.kept i).0 ∙ o)))) (λ o. absurd (o (sym (t.kept o).0 ∙ e)));
 }
+
+-- a fault that is noted where it is the first
+pub or_number : (a b : Option Refusal) → number_in (option_or a b) ≡ fault_after (number_in a) (number_in b)
+unfolding fault_after pick
+or_number None b = refl
+or_number (Some r) b = sym (after_found (fault_number r.fault) 0 (number_in b) 0 (fault_some r.fault)).0
+
+pub or_place : (a b : Option Refusal) → place_in (option_or a b) ≡ place_after (number_in a) (place_in a) (number_in b) (place_in b)
+unfolding place_after pick
+or_place None None = refl
+or_place None (Some r) = sym (after_first 0 0 (fault_number r.fault) r.place refl (fault_some r.fault)).1
+or_place (Some r) b = sym (after_found (fault_number r.fault) r.place (number_in b) (place_in b) (fault_some r.fault)).1
+
+-- the fault of a constructor that has a second branch, as it is noted
+module _ (seen c place : ℕ) where
+  pub repeat_number : {n : Option Refusal} → n ≡ repeated seen c place → number_in n ≡ repeat_of seen c
+  unfolding repeated repeat_of pick
+  repeat_number e = ap number_in e ∙ go (get_or (bits_of 64 seen) c false)
+    where
+      go : (b : Bool) → number_in (pick b (Some (record { fault = faults.Fault.ConstructorTwice; place = place })) None) ≡ pick b 12 0
+      go true = refl
+      go false = refl
+
+  pub repeat_place : {n : Option Refusal} (x q : ℕ) → n ≡ repeated seen c place → place_after x q (number_in n) (place_in n) ≡ place_after x q (repeat_of seen c) place
+  unfolding repeated repeat_of place_after pick
+  repeat_place x q e = ap (λ n. place_after x q (number_in n) (place_in n)) e ∙ go (get_or (bits_of 64 seen) c false)
+    where
+      go : (b : Bool) → place_after x q (number_in (pick b (Some (record { fault = faults.Fault.ConstructorTwice; place = place })) None)) (place_in (pick b (Some (record { fault = faults.Fault.ConstructorTwice; place = place })) None))
+          ≡ place_after x q (pick b 12 0) place
+      go true = refl
+      go false = refl
+
+pub digit_low : (b : Bool) → digit b ≤ 1
+digit_low true = omega arith
+digit_low false = omega arith

@@ -2,28 +2,24 @@
 -- one's answer, of reading, the ownership and the calls. Assumes nothing.
 use Prim.Native.Nat.{ℕ, suc, ◌+◌, ◌-◌, ◌^◌, ◌≤◌, ◌<◌}
 use mathlib.Core.Bool.{Bool, false, true}
-use mathlib.Core.List.{List, [], ◌∷◌}
+use mathlib.Core.List.{List}
 use mathlib.Core.Path.{◌≡◌, refl, sym, ap, ◌∙◌, subst}
 use lib.ListN.{length, get_or}
 use lib.Dec.{eqb}
 use lib.Bits.{bit_or}
 use native.Mathlib.Omega.{arith}
-use types.Run.{OneOf, miss}
-use denote.Enum.Declared.{tag_of}
 use Rattle.meaning.specs.declared.Slot.{Slot}
 use Rattle.meaning.specs.Choice.{pick}
 use Rattle.meaning.specs.Marks.{find_mark, row_at}
 use Rattle.standing.specs.Bytes.{byte_at, mark_at, arity_in}
 use Rattle.checker.specs.declared.reading.Path.{Path}
-use Rattle.checker.specs.declared.reading.Node.{Node}
-use Rattle.checker.specs.declared.reading.Then.{Then}
-use Rattle.checker.specs.declared.reading.Then.TheVariants as then
-use Rattle.checker.specs.declared.reading.Read.{Read}
-use Rattle.checker.specs.declared.reading.Read.TheVariants.{Next, Fault}
-use Rattle.checker.specs.declared.ownership.Taken.{Taken}
+use Rattle.checker.specs.Node.{Node}
+use Rattle.checker.specs.Node.{Then}
+use Rattle.checker.specs.Node as then
+use Rattle.checker.specs.Read.{Read, Next, Fault}
 use Rattle.checker.specs.Bits.{bits_of}
 use Rattle.checker.specs.Slots.{kept_of}
-use Rattle.checker.specs.Ownership.{takes_many, taken_of, kind_by, then_of, credits_of, branch_of, repeat_of}
+use Rattle.checker.specs.Ownership.{Taken, takes_many, taken_of, kind_by, then_of, credits_of, branch_of, repeat_of}
 use Rattle.checker.specs.Noting.{note_at}
 use Rattle.checker.specs.OwnershipReady.{Judged, Noted, JudgedAll, NotedAll, Made}
 use Rattle.checker.specs.ReadingBytes.{path, node_at, branch_at}
@@ -31,7 +27,8 @@ use Rattle.checker.specs.Reads.{on, ReadsTerm, ReadsBranches}
 use Rattle.checker.specs.Paths.{term, pair, list, behind, places_of, Leads, Placed}
 use Rattle.checker.specs.Paths as paths
 use Rattle.checker.specs.Bodies.{Passable, fault_after, place_after, Told, Passed, PassedTwo, one, both, PassedAll}
-use Rattle.checker.specs.contracts.reading.Then as then_type
+use Rattle.checker.specs.declared.reading.Then as code
+use Rattle.checker.specs.Node.{as_then}
 use Rattle.checker.proofs.reading.Steps.{fault_next, Fine, goes, leaf_of, one_of, two_of, many_of, fault_of, from_le, from_next, from_off, branch_off, pred_is}
 use Rattle.checker.proofs.reading.Steps as steps
 use Rattle.checker.proofs.ownership.Cycle.{node_stops, leaf_judged, one_judged, two_judged, many_judged, leaf_noted, one_noted, two_noted, many_noted}
@@ -47,9 +44,12 @@ pub record NodeMet (f d : List ℕ) (at : ℕ) (p : Path) (n : Node) : Type 0 wh
   pub passable : Passable f d at p
   pub node : n ≡ node_at f d at p
 
--- a node whose tag is that of no fault
-pub no_fault : (t : Then) → OneOf (0 ∷ 1 ∷ 2 ∷ 3 ∷ []) (tag_of then_type.the_type t) → (x q : ℕ) → t ≡ then.Fault x q → ⊥
-no_fault t h x q e = miss (0 ∷ 1 ∷ 2 ∷ 3 ∷ []) 4 tt (subst (λ v. OneOf (0 ∷ 1 ∷ 2 ∷ 3 ∷ []) (tag_of then_type.the_type v)) e h)
+-- what follows a node that was read is no fault
+pub no_fault : (t : code.Then) (x q : ℕ) → as_then t ≡ then.Fault x q → ⊥
+no_fault (code.Then.Leaf n) x q e = let z : ◌≡◌ {A = ℕ} 0 1 = cc in absurd (omega arith)
+no_fault (code.Then.One n) x q e = let z : ◌≡◌ {A = ℕ} 0 1 = cc in absurd (omega arith)
+no_fault (code.Then.Two n) x q e = let z : ◌≡◌ {A = ℕ} 0 1 = cc in absurd (omega arith)
+no_fault (code.Then.Many n k b) x q e = let z : ◌≡◌ {A = ℕ} 0 1 = cc in absurd (omega arith)
 
 module _ {f d : List ℕ} {at : ℕ} {p : Path} {n : Node} (g : NodeMet f d at p n) where
   met_goes : Fine f at n
@@ -236,9 +236,9 @@ pub record Walked (f d : List ℕ) (start count credit result : ℕ) (slots : Li
       → Told (JudgedAll f d at left credit seen result slots p.slots) (NotedAll f d at left credit result p.slots v w') n y z x' q'
       → Told (JudgedAll f d start count credit 0 result slots p.slots) (NotedAll f d start count credit result p.slots w w') n x q x' q'
 
-pub none_walked : {f d : List ℕ} {start count credit result : ℕ} {slots : List Slot} {p : Path} {w x q : ℕ} → start ≤ length f → Placed f d (list start count credit) p slots
-    → Walked f d start count credit result slots p w x q start count 0 w x q
-none_walked h l = record { later = omega arith; inside = h; placed = l; reads = λ r k. k; told = λ n w' x' q' t. t }
+pub none_walked : {f d : List ℕ} {start count credit result left : ℕ} {slots : List Slot} {p : Path} {w x q : ℕ} → left ≡ count → start ≤ length f → Placed f d (list start count credit) p slots
+    → Walked f d start count credit result slots p w x q start left 0 w x q
+none_walked {f} {d} {start} {count} {credit} {result} {left} {slots} {p} {w} {x} {q} e h l = subst (λ k. Walked f d start count credit result slots p w x q start k 0 w x q) (sym e) (record { later = omega arith; inside = h; placed = l; reads = λ r k. k; told = λ n w' x' q' t. t })
 
 module _ {f d : List ℕ} {start count credit result : ℕ} {slots : List Slot} {p : Path} {w x q at left seen v y z : ℕ}
     (g : Walked f d start count credit result slots p w x q at left seen v y z) (k : Passable f d start p) where
@@ -329,11 +329,11 @@ module _ {f d : List ℕ} {start count credit result : ℕ} {slots : List Slot} 
     told = λ m o. fault_next o;
   }
 
-  pub branch_walked : {n seen' v' x' q' : ℕ} {r : Read} → Passed f d (at + 3) result inner (path more p.nodes) v y' z' v' x' q' r → r ≡ Next n → seen' ≡ bit_or seen (2 ^ c)
-      → Walked f d start count credit result slots p w x q n (left - 1) seen' v' x' q'
-  branch_walked {n} {v' = v'} h e es =
+  pub branch_walked : {n seen' v' x' q' : ℕ} {r : Read} → Passed f d (at + 3) result inner (path more p.nodes) v y' z' v' x' q' r → r ≡ Next n → seen' ≡ bit_or seen (2 ^ c) → {rest : ℕ} → rest ≡ left - 1
+      → Walked f d start count credit result slots p w x q n rest seen' v' x' q'
+  branch_walked {n} {seen'} {v'} {x'} {q'} h e es {rest} er =
       let l = from_next e h.from in
-      record {
+      subst (λ k. Walked f d start count credit result slots p w x q n k seen' v' x' q') (sym er) (record {
         later = omega (arith, g.walked.later, l.0);
         inside = l.1;
         placed = later_placed (subst (ReadsTerm f d (at + 3) (path more p.nodes)) e h.reads);
@@ -349,4 +349,4 @@ module _ {f d : List ℕ} {start count credit result : ℕ} {slots : List Slot} 
             (told_both {L = λ r. get_or (bits_of 64 seen) c false ≡ false → JudgedAll f d at left credit seen result slots p.slots r} (h.told n e)
             (λ j r i o. branch_judged (opened o) (branch_told j) refl es i) (λ i s j o. branching.branch_stops (opened o) (branch_told j) refl)
             (λ j i i' o. branch_noted (opened o) (branch_told j) refl (subst (λ k. Noted f d (at + 3) result k v v') more_is i) i') t));
-      }
+      })

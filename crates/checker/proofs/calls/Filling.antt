@@ -1,10 +1,13 @@
 -- A list of 32 that is filled from the front: the first entries go by a function, and the rest are one value. Assumes nothing.
-use Prim.Native.Nat.{ℕ, suc, ◌+◌, ◌-◌, ◌≤◌, ◌<◌}
-use mathlib.Core.Path.{◌≡◌, refl, sym, ap, ◌∙◌}
+use Prim.Native.Nat.{ℕ, zero, suc, ◌+◌, ◌-◌, ◌≤◌, ◌<◌}
+use mathlib.Core.Path.{◌≡◌, refl, sym, ap, ◌∙◌, subst}
 use mathlib.Core.List.{List, ◌∷◌, ◌++◌, append-nil}
 use native.Mathlib.Omega.{arith}
 use native.Mathlib.Numerals.{add-one}
-use lib.ListN.{length, set, get_or, replicate, length-append, length-replicate, get_or-replicate, get_or-append}
+use native.Mathlib.Decide.{ℕ_discrete}
+use denote.Param.Members.{Mut, Called}
+use Rattle.std.specs.Array.{IsFromFnResultFrom, IsFromFnResult}
+use lib.ListN.{length, set, get_or, replicate, get_or-replicate, get_or-append}
 use lib.Seq.{ext_get_or, set_at, append_snoc, get_or-append-add}
 use Rattle.meaning.specs.declared.How.TheVariants.{Never}
 use Rattle.meaning.specs.Choice.{pick}
@@ -43,10 +46,6 @@ module _ {A : Type 0} (d : A) where
   pub by_entries : (l : List A) (g : ℕ → A) → length l ≡ 32 → ((i : ℕ) → i < 32 → get_or l i d ≡ g i) → l ≡ upto 32 g
   by_entries l g e h = ext_get_or d l (upto 32 g) (e ∙ sym (upto_length 32 g)) (λ i k. h i (omega arith) ∙ sym (upto_at 32 g i d (omega arith)))
 
-  pub filled_length : (n : ℕ) (g : ℕ → A) → n ≤ 32 → length (filled d n g) ≡ 32
-  unfolding filled
-  filled_length n g h = length-append (upto n g) (replicate (32 - n) d) ∙ omega (arith, upto_length n g, length-replicate (32 - n) d)
-
   pub filled_at : (n : ℕ) (g : ℕ → A) (i : ℕ) (e : A) → i < n → get_or (filled d n g) i e ≡ g i
   unfolding filled
   filled_at n g i e h = get_or-append (upto n g) (replicate (32 - n) d) e i (omega (arith, upto_length n g)) ∙ upto_at n g i e h
@@ -56,6 +55,21 @@ module _ {A : Type 0} (d : A) where
   filled_past n g i e h l =
       let q : i ≡ length (upto n g) + (i - n) = omega (arith, upto_length n g) in
       ap (λ k. get_or (upto n g ++ replicate (32 - n) d) k e) q ∙ get_or-append-add (upto n g) (replicate (32 - n) d) (i - n) e ∙ get_or-replicate (32 - n) (i - n) d e (omega arith)
+
+-- the array that calls of a closure gave at each index in turn
+module _ {F A : Type 0} (g : Mut F (ℕ × Unit {0}) A) (v : ℕ → A) (f : F) (gives : (i : ℕ) (x : A) (q : F) → i < 32 → Called g f (i, tt) x q → (x ≡ v i) × (q ≡ f)) where
+  made_from : (xs : List A) (i n : ℕ) → i + n ≡ 32 → IsFromFnResultFrom g f xs i n → (k : ℕ) (d : A) → i ≤ k → k < 32 → get_or xs k d ≡ v k
+  made_from xs i zero s r k d l h = absurd (omega arith)
+  made_from xs i (suc n) s (q, x, at, c, r) k d l h =
+      let given = gives i x q (omega arith) c in
+      go (ℕ_discrete k i) given.0 (λ m. made_from xs (i + 1) n (omega arith) (subst (λ p. IsFromFnResultFrom g p xs (i + 1) n) given.1 r) k d m h)
+    where
+      go : Dec (k ≡ i) → x ≡ v i → (i + 1 ≤ k → get_or xs k d ≡ v k) → get_or xs k d ≡ v k
+      go (yes e) m ih = rw e (at.1 d ∙ m)
+      go (no e) m ih = ih (omega arith)
+
+  pub made_by : (d : A) (xs : List A) → IsFromFnResult g f xs 32 → xs ≡ upto 32 v
+  made_by d xs r = by_entries d xs v r.long (λ k l. made_from xs 0 32 refl r.each k d (omega arith) l)
 
 -- a word without calls
 pub row_none : row_of 0 ≡ replicate 32 Never

@@ -22,10 +22,9 @@ use Rattle.standing.specs.Bytes.{byte_at, arity_in, fields_in}
 use Rattle.standing.specs.Stands.{Stands, Each, count}
 use Rattle.standing.specs.Stands as stands
 use Rattle.standing.specs.Table.{Sorts, mode_byte}
-use Rattle.checker.specs.declared.reading.Read.{Read}
-use Rattle.checker.specs.declared.reading.Read.TheVariants.{Next, Fault}
+use Rattle.checker.specs.Read.{Read, Next, Fault}
 use Rattle.checker.specs.Bits.{bits_of}
-use Rattle.checker.specs.Slots.{slot_of, slots_of, bound_slot, kind_at}
+use Rattle.checker.specs.Slots.{slot_of, slots_of, bound_slot, kind_at, mode_of}
 use Rattle.checker.specs.Ownership.{laid_of, bound_of, credits_of, branch_of}
 use Rattle.checker.specs.Noting.{note_calls}
 use Rattle.checker.specs.OwnershipReady.{spanned, Ready, Judged, Noted, extra_by, bound_by, ReadyAll, Seen, JudgedAll, NotedAll}
@@ -37,7 +36,7 @@ use Rattle.checker.proofs.ownership.Cycle.{spanned_next, spanned_fault}
 -- ---- slots bound one after the other
 
 kind_is : (m : Mode) (at : ℕ) → slot_of (bound_slot (kind_at (mode_byte m)) at) ≡ tree.fresh (tree.kind_of m)
-unfolding kind_at pick
+unfolding mode_of pick
 kind_is Mode.number at = refl
 kind_is Mode.lent at = refl
 kind_is Mode.owned at = refl

@@ -15,13 +15,10 @@ use Rattle.meaning.specs.Outcome.{Outcome, ok, refuse, then}
 use Rattle.meaning.specs.Ownership.{check}
 use Rattle.meaning.specs.Calls.{calls, calls_branches}
 use Rattle.standing.specs.Bytes.{mark_at}
-use Rattle.checker.specs.declared.ownership.Taken.{Taken}
-use Rattle.checker.specs.declared.reading.Then.{Then}
-use Rattle.checker.specs.declared.reading.Then.TheVariants.{Leaf, One, Two, Many}
-use Rattle.checker.specs.declared.reading.Read.{Read}
-use Rattle.checker.specs.declared.reading.Read.TheVariants.{Next, Fault}
+use Rattle.checker.specs.Node.{Then, Leaf, One, Two, Many}
+use Rattle.checker.specs.Read.{Read, Next, Fault}
 use Rattle.checker.specs.Slots.{slots_of}
-use Rattle.checker.specs.Ownership.{taken_of}
+use Rattle.checker.specs.Ownership.{Taken, taken_of}
 use Rattle.checker.specs.Noting.{note_at, note_calls}
 use Rattle.checker.specs.OwnershipReady.{spanned, Ready, Judged, Noted, Made, ReadyAll, JudgedAll, NotedAll}
 use Rattle.checker.proofs.ownership.Taking.{alike_none}

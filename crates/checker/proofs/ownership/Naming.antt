@@ -14,9 +14,8 @@ use Rattle.meaning.specs.Choice.{pick}
 use Rattle.standing.specs.Bytes.{byte_at}
 use Rattle.checker.specs.declared.slots.Want.{Want}
 use Rattle.checker.specs.declared.slots.Want.TheVariants as want
-use Rattle.checker.specs.declared.ownership.Taken.{Taken}
 use Rattle.checker.specs.Slots.{unbound}
-use Rattle.checker.specs.Ownership.{fault, on_fine, take_kind, take_of, pair_of, taken_of, many_of, takes_many, first_place, second_place, named_of, two_of, names_of}
+use Rattle.checker.specs.Ownership.{Taken, fault, on_fine, take_kind, take_of, pair_of, taken_of, many_of, takes_many, first_place, second_place, named_of, two_of, names_of}
 
 -- ---- a list, or the closing of the path
 many_same : (b c d e : Bool) (g h i j x y : Taken) → pick b true (pick c true (pick d true (pick e true false))) ≡ true

@@ -22,21 +22,20 @@ use Rattle.meaning.specs.Outcome.{Outcome, ok, refuse, then, require}
 use Rattle.meaning.specs.Ownership.{check, check_branches}
 use Rattle.meaning.specs.Ownership as tree
 use Rattle.meaning.specs.Calls.{calls, calls_branches}
-use Rattle.standing.specs.Bytes.{byte_at, mark_at, arity_in, fields_in, params_in, modes_in}
+use Rattle.standing.specs.Bytes.{byte_at, mark_at, arity_in, fields_in, params_in, modes_in, result_in}
 use Rattle.standing.specs.Stands.{Listed, Stands, Each, count}
 use Rattle.standing.specs.Stands as stands
 use Rattle.standing.specs.Table.{sort_byte}
 use Rattle.checker.specs.declared.slots.Want.{Want}
 use Rattle.checker.specs.declared.slots.Want.TheVariants as want
-use Rattle.checker.specs.declared.ownership.Taken.{Taken}
-use Rattle.checker.specs.declared.reading.Then.{Then}
-use Rattle.checker.specs.declared.reading.Then.TheVariants.{Leaf, One, Two, Many, Fault}
+use Rattle.checker.specs.Node.{Then, Leaf, One, Two, Many, Fault}
 use Rattle.checker.specs.Bits.{bits_of}
-use Rattle.checker.specs.Slots.{kind_of, used_in, slots_of, spent_by, now_kind, unbound, bound_slot, want_of, want_back, test_of, kind_at, kept_of}
-use Rattle.checker.specs.Ownership.{fine, fault, on_fine, take_kind, take_of, take_at, list_of, close_of, give_of, pair_of, make_of, call_of, tail_of, taken_of, result_in, kind_by, named_by, past_of, then_of}
+use Rattle.checker.specs.Slots.{sort_at, sort_number, kind_of, used_in, slots_of, spent_by, now_kind, unbound, bound_slot, want_of, want_back, test_of, kind_at, kept_of, mode_of}
+use Rattle.checker.specs.Ownership.{Taken, fine, fault, on_fine, take_kind, take_of, take_at, list_of, close_of, give_of, pair_of, make_of, call_of, tail_of, taken_of, kind_by, named_by, past_of, then_of}
 use Rattle.checker.specs.Noting.{note_at, note_call, note_calls}
 use Rattle.checker.specs.OwnershipReady.{Known, extra_by, bound_by}
 use Rattle.checker.proofs.ownership.Spending.{slots_more, spent_length, left_of, left_all}
+use Rattle.checker.proofs.ownership.Turns.{sort_is}
 use Rattle.checker.proofs.ownership.Taking.{told, told_then, take_tells, list_tells, alike_none, modes_scaled, sorts_scaled, leafed, close_tells}
 
 -- ---- what is kept of the slots
@@ -301,7 +300,7 @@ module _ (file : File) (bytes decl : List ℕ) (d : Known file bytes decl) (sort
       (ap (λ o. then o (λ left. then (checked t left) (λ _. checked u left))) (sym (take_at_lem p 2 s want.Number e))) (λ f w. noted_both (calls t f) (calls u f) w)
 
   result_kind : (x : Sort) → (kind_of (kind_at (sort_byte x * 2)) ≡ tree.kind_owned x) × (used_in (kind_at (sort_byte x * 2)) ≡ false)
-  unfolding kind_at pick
+  unfolding mode_of pick
   result_kind Sort.number = (refl, refl)
   result_kind Sort.tree = (refl, refl)
 
@@ -329,15 +328,16 @@ module _ (file : File) (bytes decl : List ℕ) (d : Known file bytes decl) (sort
       let a : params_in decl (byte_at bytes (p + 2)) ≡ length ss = rw ef (d.parameters f lf ∙ sym n) in
       let q : p + 2 + 1 + params_in decl (byte_at bytes (p + 2)) ≡ next = omega arith in
       let r : result_in bytes decl (byte_at bytes (p + 2)) ≡ sort_byte (function_of file f).result = rw ef (d.result f lf).0 in
-      leaf_node 8 next (S.TL p f ss) refl (ap Leaf q) (go (tree.same_sort (function_of file f).result sort) (ap (λ z. eqb z (sort_byte sort)) r ∙ same_bytes (function_of file f).result sort))
+      let same : sort_number (sort_at (result_in bytes decl (byte_at bytes (p + 2)))) ≡ sort_byte (function_of file f).result = ap (λ z. sort_number (sort_at z)) r ∙ sort_is (function_of file f).result in
+      leaf_node 8 next (S.TL p f ss) refl (ap Leaf q) (go (tree.same_sort (function_of file f).result sort) (ap (λ z. eqb z (sort_byte sort)) same ∙ same_bytes (function_of file f).result sort))
       (λ g w. ap (λ z. bit_or w (2 ^ (32 + z))) (sym (low_callee p f ef lf)))
     where
       closed : Taken
       closed = close_of (call_of bytes decl p slots bound) p slots bound
 
-      go : (b : Bool) → eqb (result_in bytes decl (byte_at bytes (p + 2))) (sort_byte sort) ≡ b
+      go : (b : Bool) → eqb (sort_number (sort_at (result_in bytes decl (byte_at bytes (p + 2))))) (sort_byte sort) ≡ b
           → then (require 8 (p + 2) b) (λ _. then (tree.pass [] (function_of file f).parameters ss (p + 3) (slots_of bound slots)) (tree.done p))
-          ≡ leafed (pick (eqb (result_in bytes decl (byte_at bytes (p + 2))) (sort_byte sort)) closed (fault 8 (p + 2)))
+          ≡ leafed (pick (eqb (sort_number (sort_at (result_in bytes decl (byte_at bytes (p + 2))))) (sort_byte sort)) closed (fault 8 (p + 2)))
       go true z = rw z (ap (λ o. then o (tree.done p)) (sym (call_tells p f ss ef lf l n)) ∙ sym (close_tells (call_of bytes decl p slots bound) p slots bound))
       go false z = rw z refl
 

@@ -22,10 +22,9 @@ use Rattle.standing.specs.Bytes.{byte_at}
 use Rattle.standing.specs.Stands.{Listed}
 use Rattle.standing.specs.Table.{Sorts, Modes, mode_byte}
 use Rattle.checker.specs.declared.slots.Want.{Want}
-use Rattle.checker.specs.declared.ownership.Taken.{Taken}
 use Rattle.checker.specs.Bits.{bits_of}
-use Rattle.checker.specs.Slots.{kind_of, used_in, slot_of, slots_of, now_kind, spent_by, unbound, want_of, spends_of, test_of, want_at}
-use Rattle.checker.specs.Ownership.{fine, fault, on_fine, take_kind, take_of, bars_of, list_of, close_of}
+use Rattle.checker.specs.Slots.{kind_of, used_in, slot_of, slots_of, now_kind, spent_by, unbound, want_of, spends_of, test_of, want_at, mode_of}
+use Rattle.checker.specs.Ownership.{Taken, fine, fault, on_fine, take_kind, take_of, bars_of, list_of, close_of}
 use Rattle.checker.proofs.sets.Digits.{bits_length, bits_none, or_bit}
 use Rattle.checker.proofs.ownership.Spending.{slot_bound, slot_unbound, spent_at, left_of, left_with}
 
@@ -172,7 +171,7 @@ sorts_scaled bytes p (Sort.number ∷ ss) h = (omega (arith, h.0), sorts_scaled 
 sorts_scaled bytes p (Sort.tree ∷ ss) h = (omega (arith, h.0), sorts_scaled bytes (p + 1) ss h.2)
 
 want_is : (m : Mode) → want_of (want_at (mode_byte m)) ≡ tree.want m
-unfolding want_at pick
+unfolding mode_of pick
 want_is Mode.number = refl
 want_is Mode.lent = refl
 want_is Mode.owned = refl

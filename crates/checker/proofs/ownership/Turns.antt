@@ -15,79 +15,27 @@ use Rattle.meaning.specs.declared.Slot.{Slot}
 use Rattle.meaning.specs.Choice.{pick}
 use Rattle.meaning.specs.Sets.{first}
 use Rattle.meaning.specs.Ownership as tree
+use Rattle.meaning.specs.Syntax as S
 use Rattle.standing.specs.Bytes.{byte_at}
+use Rattle.standing.specs.Table.{sort_byte}
+use Rattle.checker.specs.declared.slots.Mode.TheVariants as mode
+use Rattle.checker.specs.declared.slots.Sort.{Sort}
+use Rattle.checker.specs.declared.slots.Sort.TheVariants as sort
 use Rattle.checker.specs.declared.slots.Want.{Want}
-use Rattle.checker.specs.declared.ownership.Taken.{Taken}
 use Rattle.checker.specs.Bits.{bits_of}
-use Rattle.checker.specs.Slots.{kind_of, used_in, slot_of, slots_of, used_kind, now_kind, spent_by, unbound, bound_slot, want_of, spends_of, test_of, want_at, kind_at, kept_of}
-use Rattle.checker.specs.Ownership.{fine, fault, on_fine, take_kind, take_of, bars_of, list_of, close_of, laid_of, bound_of}
+use Rattle.checker.specs.Slots.{kind_of, used_in, slot_of, slots_of, used_kind, now_kind, spent_by, unbound, bound_slot, want_at, kind_at, kept_of, sort_at, sort_number, given, mode_of, mode_want, want_back, digit}
+use Rattle.checker.specs.Ownership.{Taken, fine, fault, on_fine, take_kind, take_of, bars_of, list_of, laid_of, bound_of}
 use Rattle.checker.proofs.sets.Digits.{bits_none, bits_length}
 use Rattle.checker.proofs.ownership.Spending.{slots_length, spent_none, spent_first, spent_at}
 
--- ---- a slot's test
-module _ (k : Kind) (w : Want) (barred : Bool) where
-  pub test_kind : tree.fits (want_of w) (kind_of k) ≡ false → 8 ≡ test_of k w barred
-  unfolding test_of pick
-  test_kind f = rw f
-
-  pub test_used : tree.fits (want_of w) (kind_of k) ≡ true → used_in k ≡ true → 9 ≡ test_of k w barred
-  unfolding test_of pick
-  test_used f u = rw (f, u)
-
-  pub test_barred : tree.fits (want_of w) (kind_of k) ≡ true → used_in k ≡ false → barred ≡ true → 9 ≡ test_of k w barred
-  unfolding test_of pick
-  test_barred f u b = rw (f, u, b)
-
-  pub test_fine : tree.fits (want_of w) (kind_of k) ≡ true → used_in k ≡ false → barred ≡ false → tree.sized (want_of w) (kind_of k) ≡ true → 0 ≡ test_of k w barred
-  unfolding test_of pick
-  test_fine f u b s = rw (f, u, b, s)
-
-  pub test_size : tree.fits (want_of w) (kind_of k) ≡ true → used_in k ≡ false → barred ≡ false → tree.sized (want_of w) (kind_of k) ≡ false → 10 ≡ test_of k w barred
-  unfolding test_of pick
-  test_size f u b s = rw (f, u, b, s)
-
--- ---- one slot
-module _ (k now : Kind) (i p : ℕ) (w : Want) (barred gone : Bool) (spent n : ℕ) (en : n ≡ test_of now w barred) (ek : now ≡ now_kind gone k) (eg : gone ≡ get_or (bits_of 32 spent) i false) where
-  tested : n ≡ test_of (now_kind (get_or (bits_of 32 spent) i false) k) w barred
-  tested = en ∙ ap (λ x. test_of x w barred) (ek ∙ ap (λ b. now_kind b k) eg)
-
-  pub kind_stops : (n ≡ 0 → ⊥) → fault n p ≡ take_kind k i p w barred spent
-  unfolding take_kind pick
-  kind_stops z = let e : eqb n 0 ≡ false = ne_eqb n 0 z in rw (← tested, e)
-
-  pub kind_spends : n ≡ 0 → (s : Bool) → s ≡ spends_of w → s ≡ true → fine (bit_or spent (2 ^ i)) ≡ take_kind k i p w barred spent
-  unfolding take_kind pick
-  kind_spends z s es t = let e : eqb n 0 ≡ true = eq-eqb n 0 z in let q : spends_of w ≡ true = sym es ∙ t in rw (← tested, e, q)
-
-  pub kind_keeps : n ≡ 0 → (s : Bool) → s ≡ spends_of w → s ≡ false → fine spent ≡ take_kind k i p w barred spent
-  unfolding take_kind pick
-  kind_keeps z s es t = let e : eqb n 0 ≡ true = eq-eqb n 0 z in let q : spends_of w ≡ false = sym es ∙ t in rw (← tested, e, q)
-
-pub bars_here : (w : Want) (earlier i : ℕ) (s h : Bool) → s ≡ spends_of w → s ≡ true → h ≡ get_or (bits_of 32 earlier) i false → h ≡ bars_of w earlier i
-bars_here w earlier i s h e t q = let z : spends_of w ≡ true = sym e ∙ t in rw z q
-
 -- ---- one thing taken, and then another
-pub on_stops : (t u v : Taken) → t ≡ u → (t.number ≡ 0 → ⊥) → t ≡ on_fine u v
+on_stops : (t u v : Taken) → t ≡ u → (t.number ≡ 0 → ⊥) → t ≡ on_fine u v
 unfolding on_fine pick
 on_stops t u v e n = let q : eqb t.number 0 ≡ false = ne_eqb t.number 0 n in rw (← e, q)
 
-pub on_fine_lem : (t u v x : Taken) → t ≡ u → t.number ≡ 0 → x ≡ v → x ≡ on_fine u v
+on_fine_lem : (t u v x : Taken) → t ≡ u → t.number ≡ 0 → x ≡ v → x ≡ on_fine u v
 unfolding on_fine pick
 on_fine_lem t u v x e n f = let q : eqb t.number 0 ≡ true = eq-eqb t.number 0 n in rw (← e, q) f
-
-pub close_stops : (t : Taken) (at : ℕ) (slots : List Slot) (bound : ℕ) → (t.number ≡ 0 → ⊥) → t ≡ close_of t at slots bound
-unfolding close_of
-close_stops t at slots bound n = on_stops t t _ refl n
-
-pub close_left : (t : Taken) (at : ℕ) (slots : List Slot) (bound : ℕ) (l : Bool) → t.number ≡ 0 → l ≡ tree.leftover (slots_of bound (spent_by (bits_of 32 t.spent) slots))
-    → l ≡ true → fault 11 at ≡ close_of t at slots bound
-unfolding close_of pick
-close_left t at slots bound l n e q = on_fine_lem t t _ _ refl n (let z : tree.leftover (slots_of bound (spent_by (bits_of 32 t.spent) slots)) ≡ true = sym e ∙ q in rw z)
-
-pub close_fine : (t : Taken) (at : ℕ) (slots : List Slot) (bound : ℕ) (l : Bool) → t.number ≡ 0 → l ≡ tree.leftover (slots_of bound (spent_by (bits_of 32 t.spent) slots))
-    → l ≡ false → fine 0 ≡ close_of t at slots bound
-unfolding close_of pick
-close_fine t at slots bound l n e q = on_fine_lem t t _ _ refl n (let z : tree.leftover (slots_of bound (spent_by (bits_of 32 t.spent) slots)) ≡ false = sym e ∙ q in rw z)
 
 -- ---- a list of slots
 module _ (bytes : List ℕ) (slots : List Slot) (bound scale : ℕ) where
@@ -192,12 +140,39 @@ module _ (slots : List Slot) (spent bound : ℕ) where
     pub left_later : left ≡ false → tree.leftover (rest i) ≡ tree.leftover (rest (i + 1))
     left_later e = left_is ∙ rw (e, add-one i)
 
--- ---- the same in the turns of the code's loops
-pub scaled_small : (b s : ℕ) → b < 256 → s ≤ 2 → b * s ≤ 512
-scaled_small b zero h l = omega arith
-scaled_small b (suc zero) h l = omega arith
-scaled_small b (suc (suc zero)) h l = omega arith
-scaled_small b (suc (suc (suc n))) h l = absurd (omega arith)
+-- a mode, by its byte
+past_one : (m : ℕ) → 2 ≤ m → mode_of m ≡ mode.Owned
+unfolding mode_of pick
+past_one m h =
+    let a : eqb m 0 ≡ false = ne_eqb m 0 (λ e. absurd (omega arith)) in
+    let b : eqb m 1 ≡ false = ne_eqb m 1 (λ e. absurd (omega arith)) in
+    rw (a, b)
+
+pub mode_owned : (b : ℕ) → (b ≡ 0 → ⊥) → (o : Bool) → (b ≡ 1 → o ≡ true) → mode.Owned ≡ mode_of (b * (1 + digit o))
+unfolding mode_of pick
+mode_owned zero z o h = absurd (z refl)
+mode_owned (suc zero) z o h = rw (h refl)
+mode_owned (suc (suc n)) z false h = sym (past_one (suc (suc n) * 1) (omega arith))
+mode_owned (suc (suc n)) z true h = sym (past_one (suc (suc n) * 2) (omega arith))
+
+-- a result of a sort
+pub given_want : (s : Sort) → mode_want (given s) ≡ want_back (sort_number s)
+unfolding want_back pick
+given_want sort.Number = refl
+given_want sort.Tree = refl
+
+pub given_is : (b : ℕ) → given (sort_at b) ≡ mode_of (b * 2)
+unfolding sort_at mode_of pick
+given_is zero = refl
+given_is (suc zero) = refl
+given_is (suc (suc n)) =
+    let e : eqb (suc (suc n)) 0 ≡ false = ne_eqb (suc (suc n)) 0 (λ e. absurd (omega arith)) in
+    rw e (sym (past_one (suc (suc n) * 2) (omega arith)))
+
+pub sort_is : (s : S.Sort) → sort_number (sort_at (sort_byte s)) ≡ sort_byte s
+unfolding sort_at pick
+sort_is S.Sort.number = refl
+sort_is S.Sort.tree = refl
 
 module _ (bytes : List ℕ) (scale at count modes bound j b : ℕ) (out : List Slot) (k : Kind) where
   pub laid_again : (X : List Slot) → X ≡ laid_of bytes scale at (count - j) (modes + j) (bound + j) out → j < count → b ≡ byte_at bytes (modes + j) → k ≡ kind_at (b * scale)
@@ -227,15 +202,15 @@ module _ (bytes : List ℕ) (slots : List Slot) (bound scale count modes at j ea
         x ∙ rw (p, q, r) (list_turn bytes slots bound scale (count - j) (modes + j) (at + j) earlier spent i b w barred t (omega arith) ei l eb ew er et z earlier' ee)
 
 -- ---- and the credit behind them
-module _ (bytes : List ℕ) (scale at count modes bound credit j : ℕ) (slots out : List Slot)
+module _ (bytes : List ℕ) (scale at count modes bound : ℕ) (credit : Bool) (j : ℕ) (slots out : List Slot)
     (x : laid_of bytes scale at count modes bound slots ≡ laid_of bytes scale at (count - j) (modes + j) (bound + j) out) (h : count ≤ j) where
   laid_all : laid_of bytes scale at count modes bound slots ≡ out
   laid_all = x ∙ laid_end bytes scale at (count - j) (modes + j) (bound + j) out (omega arith)
 
-  pub bound_credit : credit ≡ 1 → set out (bound + count) (bound_slot (kind.Credit count) at) ≡ bound_of bytes scale at count modes bound slots credit
+  pub bound_credit : credit ≡ true → set out (bound + count) (bound_slot (kind.Credit count) at) ≡ bound_of bytes scale at count modes bound slots (digit credit)
   unfolding bound_of pick
-  bound_credit e = let q : eqb credit 1 ≡ true = eq-eqb credit 1 e in rw (q, laid_all)
+  bound_credit e = rw (e, laid_all)
 
-  pub bound_plain : (credit ≡ 1 → ⊥) → out ≡ bound_of bytes scale at count modes bound slots credit
+  pub bound_plain : credit ≡ false → out ≡ bound_of bytes scale at count modes bound slots (digit credit)
   unfolding bound_of pick
-  bound_plain n = let q : eqb credit 1 ≡ false = ne_eqb credit 1 n in rw (q, laid_all)
+  bound_plain e = rw (e, laid_all)

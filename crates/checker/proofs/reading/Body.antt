@@ -1,12 +1,12 @@
 -- The bodies: behind the functions, one body more, and the end of the file. Assumes nothing.
 use Prim.Native.Nat.{ℕ, zero, suc, ◌+◌, ◌-◌, ◌*◌, ◌≤◌, ◌<◌}
-use mathlib.Core.List.{List, [], ◌∷◌, ◌++◌, map, append_assoc, append-nil}
+use mathlib.Core.List.{List, [], ◌∷◌, ◌++◌, map, append_assoc, append-nil, map-append}
 use mathlib.Core.Bool.{Bool, true, false}
 use mathlib.Core.Option.{some}
 use mathlib.Core.Logic.{inl, inr, ⊎_elim}
 use mathlib.Core.Path.{◌≡◌, refl, sym, ap, ◌∙◌, subst}
 use lib.ListN.{length, drop, get_or, set, get_elem?, drop_of_length-le, length-append, length-set, length-map}
-use lib.Seq.{drop-cons}
+use lib.Seq.{drop-cons, get_or-append_seam}
 use lib.Dec.{leb, ltb, eqb}
 use native.Mathlib.Omega.{arith}
 use borrow.Author.Tests.{leb-true, leb-false, ltb-true, ltb-false, eqb-true, eqb-false, le-leb, lt-leb, lt-ltb, le-ltb}
@@ -22,22 +22,21 @@ use Rattle.meaning.specs.Reading.{ensure, expect, term, header, bodies, between,
 use Rattle.meaning.proofs.Table.{is_BD, is_ND}
 use Rattle.theory.proofs.Taking.{steps_ok}
 use Rattle.theory.proofs.Taking as taking
-use Rattle.standing.specs.Bytes.{mark_at}
+use Rattle.standing.specs.Bytes.{mark_at, number_at}
 use Rattle.standing.specs.Table.{table_of}
 use Rattle.standing.proofs.Readers.{two_gen, ensure_gen}
-use Rattle.checker.specs.declared.reading.Read.{Read}
-use Rattle.checker.specs.declared.reading.Read.TheVariants.{Next, Fault}
-use Rattle.checker.specs.ReadingBytes.{path, known_count, number_at, on_next, expect_at, finish_at, end_at}
+use Rattle.checker.specs.Read.{Read, Next, Fault}
+use Rattle.checker.specs.ReadingBytes.{path, known_count, on_next, expect_at, finish_at, end_at}
 use Rattle.checker.specs.Reads.{span_of, count_of, From, on, off, ReadsTerm}
 use Rattle.checker.specs.Opening.{table_with, Headed, Refused, left_over, Bodied, ReadsBody, Ends}
 use Rattle.checker.proofs.reading.Heads.{head_kept}
 use Rattle.checker.proofs.reading.Named.{named, mark_is}
-use Rattle.checker.proofs.reading.Spans.{Spans, went, fell, and_then, bind, within}
+use Rattle.checker.proofs.reading.Spans.{Spans, went, fell, bind, within}
 use Rattle.checker.proofs.reading.Cycle.{t_of, spans}
 use Rattle.checker.proofs.reading.Steps.{from_fault, from_pick, short, wrong, expect_next}
 use Rattle.checker.proofs.reading.Tabled.{table_body}
 use Rattle.checker.proofs.reading.Places.{term_place}
-use Rattle.checker.proofs.reading.Header.{head_short, opens, not_here}
+use Rattle.checker.proofs.reading.Heading.{head_short, opens, not_here}
 use Rattle.checker.proofs.reading.Opened.{declares_body}
 
 -- what a read of the code says of the reader of trees
@@ -88,7 +87,7 @@ module _ (f : List ℕ) where
 
   module _ (cs : List Constructor) (fs : List Signature) (n : ℕ) where
     -- the last: ND, and nothing behind it
-    none_left : (at : ℕ) → at ≤ length f → Spans f at (bodies n cs fs [] at (drop at f)) (and_then (expect_at f at 3) (λ b. finish_at f b))
+    none_left : (at : ℕ) → at ≤ length f → Spans f at (bodies n cs fs [] at (drop at f)) (on_next (expect_at f at 3) (λ b. finish_at f b))
     unfolding bodies
     none_left at h =
         bind _ _ (expect_spans (code ND) 3 is_ND at h) (λ a b l l'. within (finish b (drop b f)) _ (omega arith) (finish_spans b l'))
@@ -210,14 +209,6 @@ nth_some [] j e h = absurd (omega arith)
 nth_some (x ∷ xs) zero e h = refl
 nth_some (x ∷ xs) (suc j) e h = nth_some xs j e (omega arith)
 
-nth_here : {A : Type 0} (xs : List A) (y : A) (ys : List A) (e : A) → get_or (xs ++ (y ∷ ys)) (length xs) e ≡ y
-nth_here [] y ys e = refl
-nth_here (x ∷ xs) y ys e = nth_here xs y ys e
-
-map_more : {A B : Type 0} (g : A → B) (xs : List A) (x : A) → map g (xs ++ (x ∷ [])) ≡ map g xs ++ (g x ∷ [])
-map_more g [] x = refl
-map_more g (y ∷ xs) x = ap (λ l. g y ∷ l) (map_more g xs x)
-
 -- ---- no body is read yet
 pub bodied_start : (f d : List ℕ) (k at : ℕ) → length f ≤ 4096 → Headed f d k at → (number_at f at ≡ 1 → ⊥) → 0 < k → Bodied f d k 0 at
 unfolding left_over make
@@ -332,7 +323,7 @@ module _ (f d : List ℕ) (count j at : ℕ) (C : Bodied f d count j at) (h : j 
             declares = declares_body d cs fs (96 + j) (at + 2) C.declares (omega arith);
             table = ap (λ x. set x (96 + j) (at + 2)) C.table ∙ ap (λ i. set (table_with cs fs (map place_of C.terms)) (96 + i) (at + 2)) (sym (y ∙ k))
                 ∙ table_body cs fs (map place_of C.terms) (at + 2) C.few (omega arith) (omega arith)
-                ∙ ap (table_with cs fs) (ap (λ v. map place_of C.terms ++ (v ∷ [])) (sym p) ∙ sym (map_more place_of C.terms t));
+                ∙ ap (table_with cs fs) (ap (λ v. map place_of C.terms ++ (v ∷ [])) (sym p) ∙ sym (map-append place_of C.terms (t ∷ [])));
             wide = length-set d (96 + j) (at + 2) ∙ C.wide;
             functions_count = c;
             few = C.few;
@@ -361,7 +352,7 @@ module _ (f d : List ℕ) (count j at : ℕ) (C : Bodied f d count j at) (h : j 
           let q : make cs fs (C.terms ++ (t ∷ z.0)) ≡ file = ap (λ r. make cs fs (C.terms ++ r.0)) (ok_is e₁) ∙ ok_is e₂ in (
             sym (ap (λ x. x.constructors) q),
             sym (ap (λ x. x.functions) q),
-            ap place_of (sym (ap (λ x. get_or x.bodies j no_body) q) ∙ ap (λ i. get_or (C.terms ++ (t ∷ z.0)) i no_body) (sym C.done) ∙ nth_here C.terms t z.0 no_body) ∙ p,
+            ap place_of (sym (ap (λ x. get_or x.bodies j no_body) q) ∙ ap (λ i. get_or (C.terms ++ (t ∷ z.0)) i no_body) (sym C.done) ∙ get_or-append_seam C.terms t z.0 no_body) ∙ p,
           )
 
       within : expect_at f at 2 ≡ Next (at + 2) → Here file
@@ -395,11 +386,6 @@ ended_then : (cs : List Constructor) (fs : List Signature) (ts : List Term) (o :
 ended_then cs fs ts (ok (k, n, b)) empty e = ap (λ x. ok (make cs fs x)) (append-nil ts)
 ended_then cs fs ts (refuse x p) nothing e = let z : ◌≡◌ {A = ℕ} 0 1 = cc in absurd (omega arith)
 
-then_next : (r : Read) (g : ℕ → Read) → on_next r g ≡ and_then r g
-unfolding on_next and_then
-then_next (Next n) g = refl
-then_next (Fault x p) g = refl
-
 from_expect : (f : List ℕ) (at m : ℕ) → at ≤ length f → From f at (expect_at f at m)
 unfolding expect_at
 from_expect f at m h =
@@ -428,7 +414,7 @@ module _ (f d : List ℕ) (count at : ℕ) (h : length f ≤ 4096) (C : Bodied f
 
   left_spans : Spans f at left (end_at f at)
   unfolding end_at left
-  left_spans = subst (Spans f at left) (sym (then_next (expect_at f at 3) (λ n. finish_at f n))) (none_left f C.constructors C.functions (length f) at C.inside)
+  left_spans = none_left f C.constructors C.functions (length f) at C.inside
 
   pub end_fails : (x p : ℕ) → end_at f at ≡ Fault x p → Ends f d count p x
   unfolding Ends
@@ -447,15 +433,6 @@ module _ (f d : List ℕ) (count at : ℕ) (h : length f ≤ 4096) (C : Bodied f
         C.table,
         C.functions_count,
       )
-
--- a refusal that was read ends the file
-pub ends_by : (f d : List ℕ) (count x p : ℕ) → length f ≤ 4096 → Refused f x p → Ends f d count p x
-unfolding Ends Refused
-ends_by f d count x p h R = inr (R.0, refused f x p h R, omega (arith, R.1))
-
-pub ends_at : (f d : List ℕ) (count x p : ℕ) → length f ≤ 4096 → 0 < x → p ≤ length f → read f ≡ refuse x p → Ends f d count p x
-unfolding Ends
-ends_at f d count x p h a b e = inr (a, e, omega arith)
 
 -- ---- small steps for the code's proof
 pub said : (f d : List ℕ) (r : Read) {at b s s' : ℕ} → b ≡ at → s ≡ s' → ReadsTerm f d b (path s 0) r → ReadsTerm f d at (path s' 0) r

@@ -14,14 +14,13 @@ use Rattle.meaning.specs.Reading.{ensure, any, limits, mark, expect, term, branc
 use Rattle.meaning.specs.declared.Mark.TheVariants.{BR, Other}
 use Rattle.meaning.specs.Marks.{code, find, marks, mark_of, find_mark}
 use Rattle.checker.specs.declared.reading.Path.{Path}
-use Rattle.checker.specs.declared.reading.Read.{Read}
-use Rattle.checker.specs.declared.reading.Read.TheVariants.{Next, Fault}
+use Rattle.checker.specs.Read.{Read, Next, Fault}
 use Rattle.meaning.specs.Choice.{pick}
 use Rattle.standing.specs.Bytes.{mark_at}
-use Rattle.checker.specs.ReadingBytes.{known_arity, path, node_of, node_at, more_of, fitting, branch_fields_by, branch_by}
+use Rattle.checker.specs.ReadingBytes.{known_arity, path, node_of, node_at, more_of, fitting, branch_fields_by, branch_by, on_next}
 use Rattle.checker.specs.Reads.{span_of, Declares, arity_of, extra_of}
 use Rattle.meaning.proofs.Table.{is_BR}
-use Rattle.checker.proofs.reading.Spans.{Spans, went, fell, and_then, bind, within, span_is, span_same, ensure_law, declared_law, two_law}
+use Rattle.checker.proofs.reading.Spans.{Spans, went, fell, bind, within, span_is, span_same, ensure_law, declared_law, two_law}
 use Rattle.checker.proofs.reading.Nodes.{Terms, Lists, by_follow, by_node, node_spans}
 
 -- ---- a branch's record
@@ -107,8 +106,8 @@ module _ (f d : List ℕ) (cs : List Constructor) (fs : List Signature) (D : Dec
 
   branch_turn : (n : ℕ) → TermsSpan n → ListsSpan n → (p : Path) (at c credit : ℕ) → at ≤ length f
       → Spans f at (branches cs fs (suc n) (suc c) (extra_of credit) p.slots p.nodes at (drop at f))
-      (and_then (branch_by (fits at p.nodes) f d at credit p.slots) (λ s. and_then (t_of f cs fs n (at + 3) (path s p.nodes)) (λ m. b_of f cs fs n m c credit p)))
-  unfolding branches expect limits fits pick and_then arity_of
+      (on_next (branch_by (fits at p.nodes) f d at credit p.slots) (λ s. on_next (t_of f cs fs n (at + 3) (path s p.nodes)) (λ m. b_of f cs fs n m c credit p)))
+  unfolding branches expect limits fits pick on_next arity_of
   branch_turn n h_t h_b p at c credit h =
       two_law f at _ (λ x y. ensure 3 at (eqb (x * 256 + y) (code BR))) at _ h (λ l. failed (branch_short _ f d at credit p.slots l))
       (λ l. ensure_law f at _ 3 at (at + 2) (drop (at + 2) f) (eqb (mark_at f at) (code BR)) _ (λ q. failed (branch_mark _ f d at credit p.slots l q))
@@ -117,7 +116,7 @@ module _ (f d : List ℕ) (cs : List Constructor) (fs : List Signature) (D : Dec
       (λ l' x e z. let w : ◌≡◌ {A = ℕ} 0 1 = cc in absurd (omega arith))
       (λ l' x e z. ensure_law f at _ 5 at (suc (at + 2)) (drop (suc (at + 2)) f) (leb p.nodes 64 && leb (after x) 32) _
       (λ w. failed (told l q l' x e ∙ fits_no at p.nodes (after x) w))
-      (λ w. subst (Spans f at _) (sym (ap (λ r. and_then r rest) (told l q l' x e ∙ fits_yes at p.nodes (after x) w) ∙ behind (after x)))
+      (λ w. subst (Spans f at _) (sym (ap (λ r. on_next r rest) (told l q l' x e ∙ fits_yes at p.nodes (after x) w) ∙ behind (after x)))
       (bind _ _ (h_t (after x) p.nodes (suc (at + 2)) l')
       (λ u m y v. within (branches cs fs n c (extra_of credit) p.slots p.nodes m (drop m f)) _ (omega arith) (h_b c credit p.slots p.nodes m v)))))))
     where
@@ -125,17 +124,17 @@ module _ (f d : List ℕ) (cs : List Constructor) (fs : List Signature) (D : Dec
       after x = p.slots + (length x + extra_of credit x)
 
       rest : ℕ → Read
-      rest s = and_then (t_of f cs fs n (at + 3) (path s p.nodes)) (λ m. b_of f cs fs n m c credit p)
+      rest s = on_next (t_of f cs fs n (at + 3) (path s p.nodes)) (λ m. b_of f cs fs n m c credit p)
 
       failed : {a q : ℕ} → branch_by (fits at p.nodes) f d at credit p.slots ≡ Fault a q
-          → and_then (branch_by (fits at p.nodes) f d at credit p.slots) rest ≡ Fault a q
+          → on_next (branch_by (fits at p.nodes) f d at credit p.slots) rest ≡ Fault a q
       failed e = rw e
 
       three : (a : ℕ) → a + 3 ≡ suc (a + 2)
       three a = omega arith
 
-      behind : (s : ℕ) → rest s ≡ and_then (t_of f cs fs n (suc (at + 2)) (path s p.nodes)) (λ m. b_of f cs fs n m c credit p)
-      behind s = ap (λ a. and_then (t_of f cs fs n a (path s p.nodes)) (λ m. b_of f cs fs n m c credit p)) (three at)
+      behind : (s : ℕ) → rest s ≡ on_next (t_of f cs fs n (suc (at + 2)) (path s p.nodes)) (λ m. b_of f cs fs n m c credit p)
+      behind s = ap (λ a. on_next (t_of f cs fs n a (path s p.nodes)) (λ m. b_of f cs fs n m c credit p)) (three at)
 
       told : at + 2 ≤ length f → eqb (mark_at f at) (code BR) ≡ true → at + 2 < length f → (x : Constructor) → get_elem? cs (get_or f (at + 2) 0) ≡ some x
           → branch_by (fits at p.nodes) f d at credit p.slots ≡ fits at p.nodes (after x)
@@ -162,7 +161,7 @@ module _ (f d : List ℕ) (cs : List Constructor) (fs : List Signature) (D : Dec
 
   pub branch_step : (n : ℕ) (p : Path) (at c credit : ℕ) → at ≤ length f → p.nodes ≤ 64
       → span_of (branches cs fs (suc n) (suc c) (extra_of credit) p.slots p.nodes at (drop at f))
-      ≡ and_then (branch_by (fitting at) f d at credit p.slots) (λ s. and_then (t_of f cs fs n (at + 3) (path s p.nodes)) (λ m. b_of f cs fs n m c credit p))
+      ≡ on_next (branch_by (fitting at) f d at credit p.slots) (λ s. on_next (t_of f cs fs n (at + 3) (path s p.nodes)) (λ m. b_of f cs fs n m c credit p))
   branch_step n p at c credit h k =
-      subst (λ fit. span_of (branches cs fs (suc n) (suc c) (extra_of credit) p.slots p.nodes at (drop at f)) ≡ and_then (branch_by fit f d at credit p.slots) (λ s. and_then (t_of f cs fs n (at + 3) (path s p.nodes)) (λ m. b_of f cs fs n m c credit p)))
+      subst (λ fit. span_of (branches cs fs (suc n) (suc c) (extra_of credit) p.slots p.nodes at (drop at f)) ≡ on_next (branch_by fit f d at credit p.slots) (λ s. on_next (t_of f cs fs n (at + 3) (path s p.nodes)) (λ m. b_of f cs fs n m c credit p)))
       (fits_is at p.nodes k) (span_is (branch_turn n (spans n).0 (spans n).1 p at c credit h))

@@ -10,8 +10,7 @@ use lib.Dec.{ltb, eqb}
 use borrow.Author.Tests.{eqb-true, eqb-false}
 use Rattle.meaning.specs.Choice.{pick}
 use Rattle.meaning.specs.Marks.{find_mark}
-use Rattle.standing.specs.Bytes.{mark_at}
-use Rattle.checker.specs.ReadingBytes.{number_at}
+use Rattle.standing.specs.Bytes.{mark_at, number_at}
 use Rattle.checker.specs.Paths.{Head}
 
 fun_mark : (f : List ℕ) (at : ℕ) → number_at f at ≡ 1 → find_mark (mark_at f at) ≡ 1

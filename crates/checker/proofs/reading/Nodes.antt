@@ -15,16 +15,14 @@ use Rattle.meaning.specs.declared.Mark.{Mark}
 use Rattle.meaning.specs.declared.Mark.TheVariants.{CN, FN, BD, ND, GV, AT, MK, CL, TL, OP, LK, BR, NU, AR, IF, Other}
 use Rattle.meaning.specs.Marks.{row_at, number_of}
 use Rattle.checker.specs.declared.reading.Path.{Path}
-use Rattle.checker.specs.declared.reading.Then.{Then}
-use Rattle.checker.specs.declared.reading.Then.TheVariants as then'
-use Rattle.checker.specs.declared.reading.Node.{Node}
-use Rattle.checker.specs.declared.reading.Read.{Read}
-use Rattle.checker.specs.declared.reading.Read.TheVariants.{Next, Fault}
+use Rattle.checker.specs.Node.{Then, Node}
+use Rattle.checker.specs.Node as then'
+use Rattle.checker.specs.Read.{Read, Next, Fault}
 use Rattle.meaning.specs.Choice.{pick}
-use Rattle.checker.specs.ReadingBytes.{binds_of, known_arity, known_count, room, atom_field, make_fields, call_fields, open_fields, sum_fields, fields_at, follows_at, path, limited, after_fields, node_of}
+use Rattle.checker.specs.ReadingBytes.{binds_of, known_arity, known_count, room, atom_field, make_fields, call_fields, open_fields, sum_fields, fields_at, follows_at, path, limited, after_fields, node_of, on_next}
 use Rattle.standing.specs.Bytes.{byte_at}
 use Rattle.checker.specs.Reads.{Declares, arity_of, count_of, extra_of}
-use Rattle.checker.proofs.reading.Spans.{Spans, went, fell, and_then, bind, within, byte_law, bytes_law, ensure_law, declared_law, below_law}
+use Rattle.checker.proofs.reading.Spans.{Spans, went, fell, bind, within, byte_law, bytes_law, ensure_law, declared_law, below_law}
 
 -- ---- how a term goes on, by what follows its node
 abbrev pub Terms : Type 0
@@ -36,7 +34,7 @@ Lists = ℕ → ℕ → ℕ → Path → Read
 unfoldable pub by_follow : Then → Path → Terms → Lists → Read
 by_follow (then'.Leaf n) p t b = Next n
 by_follow (then'.One n) p t b = t n p
-by_follow (then'.Two n) p t b = and_then (t n p) (λ m. t m p)
+by_follow (then'.Two n) p t b = on_next (t n p) (λ m. t m p)
 by_follow (then'.Many n k c) p t b = b n k c p
 by_follow (then'.Fault x q) p t b = Fault x q
 
@@ -209,7 +207,7 @@ module _ (f d : List ℕ) (cs : List Constructor) (fs : List Signature) (D : Dec
       (within (T (suc p.slots) (suc p.nodes) (suc (suc (at + 2))) (drop (suc (suc (at + 2))) f)) _ (omega arith) (h_t _ _ _ l'))))
 
   at_IF : Holds IF
-  unfolding node limits number_of fields_at pick binds_of row_at follows_at by_follow and_then
+  unfolding node limits number_of fields_at pick binds_of row_at follows_at by_follow on_next
   at_IF =
       byte_law f (suc at) _ (at + 2) _ h2 (λ l. said_no f d at p t b 14 2 (length f) (room_no f (at + 2) 1 (omega arith)))
       (λ l. said_yes f d at p t b (suc at) 14 (at + 2 + 1) (suc (at + 2)) p.slots (suc p.nodes) _ _ (room_yes f (at + 2) 1 (omega arith)) (omega arith) (omega arith) (omega arith)

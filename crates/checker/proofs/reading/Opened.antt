@@ -2,7 +2,7 @@
 use Prim.Native.Nat.{ℕ, zero, suc, ◌+◌, ◌-◌, ◌*◌, ◌%◌, ◌≤◌, ◌<◌}
 use mathlib.Core.List.{List, [], ◌∷◌, ◌++◌}
 use mathlib.Core.Bool.{Bool, true, false}
-use mathlib.Core.Option.{some}
+use mathlib.Core.Option.{Option, some}
 use mathlib.Core.Path.{◌≡◌, refl, sym, ap, ◌∙◌, subst}
 use lib.ListN.{length, get_or, set, get_elem?, replicate, length-replicate, get_or-replicate, length-set, length-append}
 use lib.Seq.{get_or-set_same, get_or-set_other}
@@ -14,18 +14,17 @@ use Rattle.meaning.specs.Syntax.{Signature, Constructor}
 use Rattle.meaning.specs.declared.Mark.TheVariants.{CN, FN}
 use Rattle.meaning.specs.Marks.{find_mark, mark_of}
 use Rattle.meaning.specs.Reading.{header}
-use Rattle.standing.specs.Bytes.{mark_at}
+use Rattle.standing.specs.Bytes.{mark_at, number_at}
 use Rattle.standing.specs.Table.{con_end, fun_end}
-use Rattle.checker.specs.declared.reading.Read.{Read}
-use Rattle.checker.specs.declared.reading.Read.TheVariants.{Next, Fault}
-use Rattle.checker.specs.ReadingBytes.{known_arity, known_count, number_at, small_bytes, on_next, con_at, fun_at}
+use Rattle.checker.specs.Read.{Read, Next, Fault}
+use Rattle.checker.specs.ReadingBytes.{known_arity, known_count, small_bytes, on_next, counted_at, con_at, fun_at}
 use Rattle.checker.specs.Reads.{Declares, arity_of, count_of, From, on, off}
 use Rattle.checker.specs.Opening.{table_with, Conned, Headed, Refused}
 use Rattle.checker.proofs.reading.Named.{named, mark_is}
-use Rattle.checker.proofs.reading.Steps.{from_le, from_next, from_fault, from_pick, from_small, short, wrong}
+use Rattle.checker.proofs.reading.Steps.{by_pick, from_le, from_fault, from_pick, from_small, short, wrong}
 use Rattle.checker.proofs.reading.Tabled.{con_end_more, fun_end_more, table_con, table_fun, table_blank}
 use Rattle.checker.proofs.reading.Heads.{head_more}
-use Rattle.checker.proofs.reading.Header.{con_got, con_fails, con_full, con_more, fun_got, fun_fails, fun_full, fun_more}
+use Rattle.checker.proofs.reading.Heading.{con_got, con_fails, con_full, con_more, fun_got, fun_fails, fun_full, fun_more}
 
 -- ---- a list with one entry more
 last_is : {A : Type 0} (xs : List A) (x : A) → get_elem? (xs ++ (x ∷ [])) (length xs) ≡ some x
@@ -37,6 +36,25 @@ other_is [] x zero h = absurd (h refl)
 other_is [] x (suc b) h = refl
 other_is (y ∷ xs) x zero h = refl
 other_is (y ∷ xs) x (suc b) h = other_is xs x b (λ e. h (ap suc e))
+
+-- what is known of each entry, by its index, is known with one entry more
+entries_more : {A : Type 0} (known known' : ℕ → ℕ) (of : Option A → ℕ) (xs : List A) (x : A) → ((b : ℕ) → known b ≡ of (get_elem? xs b)) → known' (length xs) ≡ of (some x)
+    → ((b : ℕ) → (b ≡ length xs → ⊥) → known' b ≡ known b) → (b : ℕ) → known' b ≡ of (get_elem? (xs ++ (x ∷ [])) b)
+entries_more known known' of xs x each here kept b = go (eqb b (length xs)) refl
+  where
+    go : (u : Bool) → eqb b (length xs) ≡ u → known' b ≡ of (get_elem? (xs ++ (x ∷ [])) b)
+    go true z = subst (λ n. known' n ≡ of (get_elem? (xs ++ (x ∷ [])) n)) (sym (eqb-true b (length xs) z)) (here ∙ ap of (sym (last_is xs x)))
+    go false z = let h = eqb-false b (length xs) z in kept b h ∙ each b ∙ ap of (sym (other_is xs x b h))
+
+all_more : {A : Type 0} (P : A → Type 0) (xs : List A) (x : A) → ((b : ℕ) (y : A) → get_elem? xs b ≡ some y → P y) → P x → (b : ℕ) (y : A) → get_elem? (xs ++ (x ∷ [])) b ≡ some y → P y
+all_more P xs x each here b y e = go (eqb b (length xs)) refl
+  where
+    go : (u : Bool) → eqb b (length xs) ≡ u → P y
+    go true z =
+        let r : some x ≡ some y = sym (last_is xs x) ∙ subst (λ n. get_elem? (xs ++ (x ∷ [])) n ≡ some y) (eqb-true b (length xs) z) e in
+        let v : x ≡ y = cc in
+        subst P v here
+    go false z = each b y (sym (other_is xs x b (eqb-false b (length xs) z)) ∙ e)
 
 -- ---- one constructor more in the table
 put_arity : (d : List ℕ) (n w : ℕ) → n < length d → n < 64 → known_arity (set d n w) n ≡ w % 256
@@ -54,28 +72,12 @@ kept_count d n w b l = rw (get_or-set_other d n (64 + b) w 0 (λ e. omega arith)
 declares_con : (d : List ℕ) (cs : List Constructor) (fs : List Signature) (w : ℕ) (c : Constructor) → Declares d cs fs → length d ≡ 128 → length cs < 64 → w % 256 ≡ length c → length c ≤ 4
     → Declares (set d (length cs) w) (cs ++ (c ∷ [])) fs
 unfolding arity_of
-declares_con d cs fs w c D e l q s =
-    record {
-      arities = λ b. arity b (eqb b (length cs)) refl;
-      counts = λ b. kept_count d (length cs) w b l ∙ D.counts b;
-      few_fields = λ b x y. small b x y (eqb b (length cs)) refl;
-      few_parameters = D.few_parameters;
-    }
-  where
-    arity : (b : ℕ) (u : Bool) → eqb b (length cs) ≡ u → known_arity (set d (length cs) w) b ≡ arity_of (get_elem? (cs ++ (c ∷ [])) b)
-    arity b true z =
-        subst (λ n. known_arity (set d (length cs) w) n ≡ arity_of (get_elem? (cs ++ (c ∷ [])) n)) (sym (eqb-true b (length cs) z))
-        (put_arity d (length cs) w (omega arith) l ∙ q ∙ ap arity_of (sym (last_is cs c)))
-    arity b false z =
-        let h = eqb-false b (length cs) z in
-        kept_arity d (length cs) w b h ∙ D.arities b ∙ ap arity_of (sym (other_is cs c b h))
-
-    small : (b : ℕ) (x : Constructor) → get_elem? (cs ++ (c ∷ [])) b ≡ some x → (u : Bool) → eqb b (length cs) ≡ u → length x ≤ 4
-    small b x y true z =
-        let r : some c ≡ some x = sym (last_is cs c) ∙ subst (λ n. get_elem? (cs ++ (c ∷ [])) n ≡ some x) (eqb-true b (length cs) z) y in
-        let v : c ≡ x = cc in
-        subst (λ k. length k ≤ 4) v s
-    small b x y false z = D.few_fields b x (sym (other_is cs c b (eqb-false b (length cs) z)) ∙ y)
+declares_con d cs fs w c D e l q s = record {
+  arities = entries_more (known_arity d) (known_arity (set d (length cs) w)) arity_of cs c D.arities (put_arity d (length cs) w (omega arith) l ∙ q) (kept_arity d (length cs) w);
+  counts = λ b. kept_count d (length cs) w b l ∙ D.counts b;
+  few_fields = all_more (λ x. length x ≤ 4) cs c D.few_fields s;
+  few_parameters = D.few_parameters;
+}
 
 -- ---- nothing is declared yet; n is 128, and stays a variable so that the table is not written out
 start_arity : (n b : ℕ) → 64 ≤ n → known_arity (replicate n 255) b ≡ 255
@@ -129,9 +131,7 @@ data Until (e : ℕ) : Read → Type 0 where
   never : {x p : ℕ} → Until e (Fault x p)
 
 until_pick : {e : ℕ} (b : Bool) {x y : Read} → Until e x → Until e y → Until e (pick b x y)
-unfolding pick
-until_pick true p q = p
-until_pick false p q = q
+until_pick {e} b p q = by_pick (Until e) b p (λ _. q)
 
 until_of : {e m : ℕ} {r : Read} → Until e r → r ≡ Next m → m ≡ e
 until_of {m = m} (until {n = n} q) z = let w : n ≡ m = cc in sym w ∙ q
@@ -149,36 +149,36 @@ unfolding on_next
 until_next e e' (Next n) g (until q) h = subst (λ m. Until e' (g m)) (sym q) h
 until_next e e' (Fault x p) g never h = never
 
+until_counted : (f : List ℕ) (a most top : ℕ) → Until (a + 1 + get_or f a 0) (counted_at f a most top)
+unfolding counted_at
+until_counted f a most top = until_pick _ never (until_pick _ never (until_small (get_or f a 0) f (a + 1) top))
+
 con_ends : (f : List ℕ) (a m : ℕ) → con_at f a ≡ Next m → m ≡ a + 1 + get_or f a 0
 unfolding con_at
-con_ends f a m q = until_of {r = con_at f a} (until_pick _ never (until_pick _ never (until_small (get_or f a 0) f (a + 1) 1))) q
+con_ends f a m q = until_of {r = con_at f a} (until_counted f a 4 1) q
 
 fun_ends : (f : List ℕ) (a m : ℕ) → fun_at f a ≡ Next m → m ≡ a + 1 + get_or f a 0 + 1
 unfolding fun_at
 fun_ends f a m q =
-    until_of {r = fun_at f a} (until_pick _ never (until_pick _ never
-    (until_next (a + 1 + get_or f a 0) _ (small_bytes (get_or f a 0) f (a + 1) 2) _ (until_small (get_or f a 0) f (a + 1) 2) (until_small 1 f (a + 1 + get_or f a 0) 1)))) q
+    until_of {r = fun_at f a} (until_next (a + 1 + get_or f a 0) _ (counted_at f a 8 2) _ (until_counted f a 8 2) (until_small 1 f (a + 1 + get_or f a 0) 1)) q
 
 from_then : {f : List ℕ} {lo lo' : ℕ} {r : Read} (g : ℕ → Read) → From f lo r → ((n : ℕ) → lo ≤ n → n ≤ length f → From f lo' (g n)) → From f lo' (on_next r g)
 unfolding on_next
 from_then g (on {n = n} p q) h = h n p q
 from_then g (off x q) h = off x q
 
+from_counted : (f : List ℕ) (a most top : ℕ) → a ≤ length f → From f (a + 1) (counted_at f a most top)
+unfolding counted_at
+from_counted f a most top h =
+    from_pick _ short (λ e. let l = leb-false (length f) a e in from_pick _ (wrong 4 a (omega arith) h) (λ _. from_small (get_or f a 0) f (a + 1) top (omega arith)))
+
 from_con : (f : List ℕ) (a : ℕ) → a ≤ length f → From f (a + 1) (con_at f a)
 unfolding con_at
-from_con f a h = from_pick _ short (λ e. let l = leb-false (length f) a e in from_pick _ (wrong 4 a (omega arith) h) (λ _. from_small (get_or f a 0) f (a + 1) 1 (omega arith)))
+from_con f a h = from_counted f a 4 1 h
 
 from_fun : (f : List ℕ) (a : ℕ) → a ≤ length f → From f (a + 1) (fun_at f a)
 unfolding fun_at
-from_fun f a h =
-    from_pick _ short (λ e. let l = leb-false (length f) a e in from_pick _ (wrong 4 a (omega arith) h) (λ _.
-    from_then _ (from_small (get_or f a 0) f (a + 1) 2 (omega arith)) (λ n p q. from_le p (from_small 1 f n 1 q))))
-
-pub con_past : (f : List ℕ) (a m : ℕ) → a ≤ length f → con_at f a ≡ Next m → (a + 1 ≤ m) × (m ≤ length f)
-con_past f a m h q = from_next q (from_con f a h)
-
-pub fun_past : (f : List ℕ) (a m : ℕ) → a ≤ length f → fun_at f a ≡ Next m → (a + 1 ≤ m) × (m ≤ length f)
-fun_past f a m h q = from_next q (from_fun f a h)
+from_fun f a h = from_then _ (from_counted f a 8 2 h) (λ n p q. from_le p (from_small 1 f n 1 q))
 
 -- ---- the constructors
 pub is_con : (f : List ℕ) (at : ℕ) → number_at f at ≡ 0 → (at + 2 ≤ length f) × (mark_of (mark_at f at) ≡ CN)
@@ -255,28 +255,12 @@ arity_kept d k w b h = go (ltb b 64) refl
 declares_fun : (d : List ℕ) (cs : List Constructor) (fs : List Signature) (w : ℕ) (c : Signature) → Declares d cs fs → length d ≡ 128 → length fs < 32 → w % 256 ≡ length c.parameters → length c.parameters ≤ 8
     → Declares (set d (64 + length fs) w) cs (fs ++ (c ∷ []))
 unfolding count_of
-declares_fun d cs fs w c D e l q s =
-    record {
-      arities = λ b. arity_kept d (64 + length fs) w b (omega arith) ∙ D.arities b;
-      counts = λ b. arity b (eqb b (length fs)) refl;
-      few_fields = D.few_fields;
-      few_parameters = λ b x y. small b x y (eqb b (length fs)) refl;
-    }
-  where
-    arity : (b : ℕ) (u : Bool) → eqb b (length fs) ≡ u → known_count (set d (64 + length fs) w) b ≡ count_of (get_elem? (fs ++ (c ∷ [])) b)
-    arity b true z =
-        subst (λ n. known_count (set d (64 + length fs) w) n ≡ count_of (get_elem? (fs ++ (c ∷ [])) n)) (sym (eqb-true b (length fs) z))
-        (put_count d (length fs) w (omega arith) l ∙ q ∙ ap count_of (sym (last_is fs c)))
-    arity b false z =
-        let h = eqb-false b (length fs) z in
-        count_other d (length fs) w b h ∙ D.counts b ∙ ap count_of (sym (other_is fs c b h))
-
-    small : (b : ℕ) (x : Signature) → get_elem? (fs ++ (c ∷ [])) b ≡ some x → (u : Bool) → eqb b (length fs) ≡ u → length x.parameters ≤ 8
-    small b x y true z =
-        let r : some c ≡ some x = sym (last_is fs c) ∙ subst (λ n. get_elem? (fs ++ (c ∷ [])) n ≡ some x) (eqb-true b (length fs) z) y in
-        let v : c ≡ x = cc in
-        subst (λ k. length k.parameters ≤ 8) v s
-    small b x y false z = D.few_parameters b x (sym (other_is fs c b (eqb-false b (length fs) z)) ∙ y)
+declares_fun d cs fs w c D e l q s = record {
+  arities = λ b. arity_kept d (64 + length fs) w b (omega arith) ∙ D.arities b;
+  counts = entries_more (known_count d) (known_count (set d (64 + length fs) w)) count_of fs c D.counts (put_count d (length fs) w (omega arith) l ∙ q) (count_other d (length fs) w);
+  few_fields = D.few_fields;
+  few_parameters = all_more (λ x. length x.parameters ≤ 8) fs c D.few_parameters s;
+}
 
 -- the place of a body changes nothing of what is declared
 count_kept : (d : List ℕ) (k w b : ℕ) → 96 ≤ k → known_count (set d k w) b ≡ known_count d b

@@ -9,8 +9,8 @@ use lib.Dec.{ltb}
 use native.Mathlib.Omega.{arith}
 use Rattle.meaning.specs.Outcome.{Outcome, ok, refuse, then}
 use Rattle.meaning.specs.Reading.{Reader, byte, ensure, times, declared, below}
-use Rattle.checker.specs.declared.reading.Read.{Read}
-use Rattle.checker.specs.declared.reading.Read.TheVariants.{Next, Fault}
+use Rattle.checker.specs.Read.{Read, Next, Fault}
+use Rattle.checker.specs.ReadingBytes.{on_next}
 use Rattle.checker.specs.Reads.{span_of}
 use Rattle.standing.specs.Bytes.{bytes_at}
 use Rattle.standing.proofs.Readers.{byte_gen, bytes_gen, ensure_gen, declared_gen, below_gen, two_gen}
@@ -28,13 +28,9 @@ span_is fell = refl
 pub span_same : {A : Type 0} {f : List ℕ} {lo : ℕ} {o : Outcome (A × ℕ × List ℕ)} {r : Read} → Spans f lo o r → Spans f lo o (span_of o)
 span_same {f = f} {lo = lo} {o = o} s = subst (Spans f lo o) (sym (span_is s)) s
 
-unfoldable pub and_then : Read → (ℕ → Read) → Read
-and_then (Next n) g = g n
-and_then (Fault x p) g = Fault x p
-
 pub bind : {A B : Type 0} {f : List ℕ} {lo lo' : ℕ} {o : Outcome (A × ℕ × List ℕ)} {r : Read} (k : A × ℕ × List ℕ → Outcome (B × ℕ × List ℕ)) (g : ℕ → Read)
-    → Spans f lo o r → ((a : A) (n : ℕ) → lo ≤ n → n ≤ length f → Spans f lo' (k (a, n, drop n f)) (g n)) → Spans f lo' (then o k) (and_then r g)
-unfolding and_then
+    → Spans f lo o r → ((a : A) (n : ℕ) → lo ≤ n → n ≤ length f → Spans f lo' (k (a, n, drop n f)) (g n)) → Spans f lo' (then o k) (on_next r g)
+unfolding on_next
 bind {f = f} {lo' = lo'} k g (went {a = a} {n = n} e l h) c = subst (λ b. Spans f lo' (k (a, n, b)) (g n)) (sym e) (c a n l h)
 bind k g fell c = fell
 

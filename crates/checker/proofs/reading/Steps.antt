@@ -10,17 +10,14 @@ use borrow.Author.Tests.{leb-false, ltb-false}
 use Rattle.meaning.specs.Syntax.{Signature, Constructor}
 use Rattle.meaning.specs.Reading.{branches}
 use Rattle.checker.specs.declared.reading.Path.{Path}
-use Rattle.checker.specs.declared.reading.Then.{Then}
-use Rattle.checker.specs.declared.reading.Then.TheVariants as then'
-use Rattle.checker.specs.declared.reading.Node.{Node}
-use Rattle.checker.specs.declared.reading.Read.{Read}
-use Rattle.checker.specs.declared.reading.Read.TheVariants.{Next, Fault}
+use Rattle.checker.specs.Node.{Then, Node}
+use Rattle.checker.specs.Node as then'
+use Rattle.checker.specs.Read.{Read, Next, Fault}
 use Rattle.meaning.specs.Choice.{pick}
-use Rattle.checker.specs.ReadingBytes.{binds_of, room, atom_field, make_fields, call_fields, open_fields, sum_fields, fields_at, follows_at, path, node, limited, after_fields, node_of, node_at, fitting, branch_fields_by, branch_by, small_bytes, expect_at}
+use Rattle.checker.specs.ReadingBytes.{binds_of, room, atom_field, make_fields, call_fields, open_fields, sum_fields, fields_at, follows_at, path, node, limited, after_fields, node_of, node_at, fitting, branch_fields_by, branch_by, small_bytes, expect_at, on_next}
 use Rattle.standing.specs.Bytes.{mark_at}
 use Rattle.meaning.specs.Marks.{find_mark}
 use Rattle.checker.specs.Reads.{span_of, Declares, From, on, off, ReadsTerm, ReadsBranches}
-use Rattle.checker.proofs.reading.Spans.{and_then}
 use Rattle.checker.proofs.reading.Nodes.{by_follow, by_node}
 use Rattle.checker.proofs.reading.Cycle.{t_of, b_of, term_step, branch_step}
 
@@ -51,10 +48,13 @@ from_fault {x = y} {p = q} e (off {x = x} {p = p} h l) = let z = fault_is x p y 
 pub from_off : {f : List ℕ} {a b x p : ℕ} {r : Read} → r ≡ Fault x p → From f a r → From f b (Fault x p)
 from_off e h = let z = from_fault e h in off z.0 z.1
 
-pub from_pick : {f : List ℕ} {a : ℕ} (b : Bool) {x y : Read} → From f a x → (b ≡ false → From f a y) → From f a (pick b x y)
+pub by_pick : {A : Type 0} (P : A → Type 0) (b : Bool) {x y : A} → P x → (b ≡ false → P y) → P (pick b x y)
 unfolding pick
-from_pick true p q = p
-from_pick false p q = q refl
+by_pick P true p q = p
+by_pick P false p q = q refl
+
+pub from_pick : {f : List ℕ} {a : ℕ} (b : Bool) {x y : Read} → From f a x → (b ≡ false → From f a y) → From f a (pick b x y)
+from_pick {f} {a} b p q = by_pick (From f a) b p q
 
 pub short : {f : List ℕ} {lo : ℕ} → From f lo (Fault 2 (length f))
 short {f = f} = let a : 0 < 2 = omega arith in let b : length f ≤ length f = omega arith in off a b
@@ -112,18 +112,14 @@ pub record Fine (f : List ℕ) (at : ℕ) (n : Node) : Type 0 where
   pub nodes : n.path.nodes ≤ 64
 
 ahead_pick : {f : List ℕ} {at : ℕ} (b : Bool) {x y : Then} → Ahead f at x → Ahead f at y → Ahead f at (pick b x y)
-unfolding pick
-ahead_pick true p q = p
-ahead_pick false p q = q
+ahead_pick {f} {at} b p q = by_pick (Ahead f at) b p (λ _. q)
 
 follows_ahead : (f : List ℕ) (at m n : ℕ) → at < n → n ≤ length f → Ahead f at (follows_at f at m n)
 unfolding follows_at
 follows_ahead f at m n p q = ahead_pick _ (leaf p q) (ahead_pick _ (leaf p q) (ahead_pick _ (many p q (omega arith)) (ahead_pick _ (many p q (omega arith)) (ahead_pick _ (two p q) (one p q)))))
 
 fine_pick : {f : List ℕ} {at : ℕ} (b : Bool) {x y : Node} → Fine f at x → (b ≡ false → Fine f at y) → Fine f at (pick b x y)
-unfolding pick
-fine_pick true p q = p
-fine_pick false p q = q refl
+fine_pick {f} {at} b p q = by_pick (Fine f at) b p q
 
 module _ (f d : List ℕ) (at : ℕ) (p : Path) (h : at ≤ length f) (hs : p.slots ≤ 32) (hk : p.nodes ≤ 64) where
   refused : (x q : ℕ) → 0 < x → q ≤ length f → Fine f at (node (then'.Fault x q) p)
@@ -180,9 +176,7 @@ data Kept (f : List ℕ) : Read → Type 0 where
   lost : {x q : ℕ} → 0 < x → q ≤ length f → Kept f (Fault x q)
 
 kept_pick : {f : List ℕ} (b : Bool) {x y : Read} → Kept f x → (b ≡ false → Kept f y) → Kept f (pick b x y)
-unfolding pick
-kept_pick true p q = p
-kept_pick false p q = q refl
+kept_pick {f} b p q = by_pick (Kept f) b p q
 
 branch_kept : (f d : List ℕ) (at credit s : ℕ) → at ≤ length f → Kept f (branch_by (fitting at) f d at credit s)
 unfolding branch_by branch_fields_by fitting
@@ -224,14 +218,14 @@ module _ (f d : List ℕ) (at : ℕ) (p : Path) (h : at ≤ length f) where
     one_reads a r q u v c = reads_by r (λ cs fs D m l. c cs fs D m (omega arith) ∙ by (then'.One a) q cs fs m)
 
     pub two_stops : (a x z : ℕ) → n.then ≡ then'.Two a → at < a → a ≤ length f → ReadsTerm f d a n.path (Fault x z) → ReadsTerm f d at p (Fault x z)
-    unfolding by_follow ReadsTerm and_then
+    unfolding by_follow ReadsTerm on_next
     two_stops a x z q u v c =
-        reads_by (Fault x z) (λ cs fs D m l. ap (λ r. and_then r (λ b. t_of f cs fs m b n.path)) (c cs fs D m (omega arith)) ∙ by (then'.Two a) q cs fs m)
+        reads_by (Fault x z) (λ cs fs D m l. ap (λ r. on_next r (λ b. t_of f cs fs m b n.path)) (c cs fs D m (omega arith)) ∙ by (then'.Two a) q cs fs m)
 
     pub two_reads : (a b : ℕ) (r : Read) → n.then ≡ then'.Two a → at < a → a < b → b ≤ length f → ReadsTerm f d a n.path (Next b) → ReadsTerm f d b n.path r → ReadsTerm f d at p r
-    unfolding by_follow ReadsTerm and_then
+    unfolding by_follow ReadsTerm on_next
     two_reads a b r q u v w c c' =
-        reads_by r (λ cs fs D m l. c' cs fs D m (omega arith) ∙ ap (λ s. and_then s (λ b'. t_of f cs fs m b' n.path)) (c cs fs D m (omega arith)) ∙ by (then'.Two a) q cs fs m)
+        reads_by r (λ cs fs D m l. c' cs fs D m (omega arith) ∙ ap (λ s. on_next s (λ b'. t_of f cs fs m b' n.path)) (c cs fs D m (omega arith)) ∙ by (then'.Two a) q cs fs m)
 
     pub many_reads : (a k g : ℕ) (r : Read) → n.then ≡ then'.Many a k g → at < a → a ≤ length f → ReadsBranches f d a k g n.path r → ReadsTerm f d at p r
     unfolding by_follow ReadsBranches
@@ -246,24 +240,24 @@ module _ (f d : List ℕ) (at credit : ℕ) (p : Path) (h : at ≤ length f) (hk
 
   lists_by : (c k : ℕ) → k ≡ suc c → (r : Read)
       → ((cs : List Constructor) (fs : List Signature) → Declares d cs fs → (m : ℕ) → length f - at ≤ m
-      → r ≡ and_then (branch_by (fitting at) f d at credit p.slots) (λ s. and_then (t_of f cs fs m (at + 3) (path s p.nodes)) (λ n. b_of f cs fs m n c credit p)))
+      → r ≡ on_next (branch_by (fitting at) f d at credit p.slots) (λ s. on_next (t_of f cs fs m (at + 3) (path s p.nodes)) (λ n. b_of f cs fs m n c credit p)))
       → ReadsBranches f d at k credit p r
   unfolding ReadsBranches
   lists_by c k e r g cs fs D zero l = absurd (omega arith)
   lists_by c k e r g cs fs D (suc m) l = rw e (g cs fs D m (omega arith) ∙ sym (branch_step f d cs fs D m p at c credit h hk))
 
   pub branch_stops : (c k : ℕ) → k ≡ suc c → (x z : ℕ) → branch_by (fitting at) f d at credit p.slots ≡ Fault x z → ReadsBranches f d at k credit p (Fault x z)
-  unfolding and_then
+  unfolding on_next
   branch_stops c k e x z q = lists_by c k e (Fault x z) (λ cs fs D m l. rw q)
 
   pub term_stops : (c k : ℕ) → k ≡ suc c → (s x z : ℕ) → branch_by (fitting at) f d at credit p.slots ≡ Next s → at + 3 ≤ length f
       → ReadsTerm f d (at + 3) (path s p.nodes) (Fault x z) → ReadsBranches f d at k credit p (Fault x z)
-  unfolding and_then ReadsTerm
+  unfolding on_next ReadsTerm
   term_stops c k e s x z q u t = lists_by c k e (Fault x z) (λ cs fs D m l. rw (q, ← t cs fs D m (omega arith)))
 
   pub branch_reads : (c k : ℕ) → k ≡ suc c → (s a : ℕ) (r : Read) → branch_by (fitting at) f d at credit p.slots ≡ Next s → at + 3 ≤ length f → at + 3 < a → a ≤ length f
       → ReadsTerm f d (at + 3) (path s p.nodes) (Next a) → ReadsBranches f d a c credit p r → ReadsBranches f d at k credit p r
-  unfolding and_then ReadsTerm ReadsBranches
+  unfolding on_next ReadsTerm ReadsBranches
   branch_reads c k e s a r q u v w t b = lists_by c k e r (λ cs fs D m l. rw (q, ← t cs fs D m (omega arith)) (b cs fs D m (omega arith)))
 
 -- ---- small steps for the code's proof
@@ -275,6 +269,10 @@ pred_is zero h = absurd (h refl)
 pred_is (suc k) h = omega arith
 
 -- ---- a loop over small bytes
+pub small_none : (k : ℕ) (f : List ℕ) (p top : ℕ) → k ≡ 0 → small_bytes k f p top ≡ Next p
+unfolding small_bytes
+small_none k f p top e = rw e
+
 pub small_turn : (k j : ℕ) (f : List ℕ) (p top : ℕ) → j < k
     → small_bytes (k - j) f p top ≡ pick (leb (length f) p) (Fault 2 (length f)) (pick (ltb top (get_or f p 0)) (Fault 4 p) (small_bytes (k - (j + 1)) f (p + 1) top))
 unfolding small_bytes

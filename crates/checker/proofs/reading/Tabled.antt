@@ -4,6 +4,7 @@ use mathlib.Core.List.{List, [], ◌∷◌, ◌++◌, append_assoc}
 use mathlib.Core.Path.{◌≡◌, refl, sym, ap, ◌∙◌}
 use lib.ListN.{length, set, replicate, length-replicate, length-append}
 use lib.Seq.{set-append_seam, set-append_left}
+use Rattle.std.proofs.lemmas.List.{set-append_right}
 use native.Mathlib.Omega.{arith}
 use Rattle.meaning.specs.Syntax.{Signature, Constructor}
 use Rattle.standing.specs.Table.{con_words, con_end, fun_words, fun_end, filled}
@@ -57,14 +58,10 @@ fill_wide n ws h =
     let q : length blanks ≡ n - length ws = length-replicate {A = ℕ} (n - length ws) 255 in
     omega arith
 
-set_right : (xs ys : List ℕ) (i a : ℕ) → set (xs ++ ys) (length xs + i) a ≡ xs ++ set ys i a
-set_right [] ys i a = let e : 0 + i ≡ i = omega arith in ap (λ j. set ys j a) e
-set_right (x ∷ xs) ys i a =
-    let e : suc (length xs) + i ≡ suc (length xs + i) = omega arith in
-    ap (λ j. set (x ∷ (xs ++ ys)) j a) e ∙ ap (λ l. x ∷ l) (set_right xs ys i a)
-
 set_behind : (n : ℕ) (xs ys : List ℕ) (i a : ℕ) → length xs ≡ n → set (xs ++ ys) (n + i) a ≡ xs ++ set ys i a
-set_behind n xs ys i a e = ap (λ j. set (xs ++ ys) (j + i) a) (sym e) ∙ set_right xs ys i a
+set_behind n xs ys i a e =
+    let z : n + i - n ≡ i = omega arith in
+    set-append_right xs ys n (n + i) a e (omega arith) ∙ ap (λ j. xs ++ set ys j a) z
 
 -- ---- one entry more in each part
 pub table_con : (cs : List Constructor) (c : Constructor) (w : ℕ) → length cs < 64 → w ≡ length c + 256 * (con_end 0 cs + 3)

@@ -1,140 +1,25 @@
 -- The machine's operations on a number, on the list of its digits: the set that they stand for. Assumes nothing.
-use Prim.Native.Nat.{ℕ, zero, suc, ◌+◌, ◌-◌, ◌*◌, ◌/◌, ◌%◌, ◌^◌, ◌<◌, max, min}
-use mathlib.Core.Path.{◌≡◌, refl, sym, ap, ◌∙◌}
-use mathlib.Core.Logic.{◌⊎◌, inl, inr}
-use mathlib.Core.List.{List, [], ◌∷◌}
-use mathlib.Core.Bool.{Bool, true, false}
-use native.Mathlib.Omega.{arith}
-use native.Mathlib.Nat.{pow-suc, le_of_suc-le-suc, not-suc-le-zero}
-use lib.ListN.{length, set, get_or, replicate}
-use lib.Dec.{eqb, lit<}
-use lib.Pow.{shr-shr}
-use lib.Bits.{bit_or, bit_and, bit_xor, or_step, and_step, xor_step, or_zero_r, and_self, and_le_r}
-use lib.Bits as bits
-use lib.Count.{count_trailing_zeros, ones, ones_step, ones-ones}
-use Rattle.checker.specs.Bits.{bits_of}
+use Rattle.std.proofs.Common.{ℕ, zero, suc, ◌+◌, ◌-◌, ◌*◌, ◌/◌, ◌%◌, ◌^◌, ◌<◌, min, max, ◌≡◌, refl, sym, ap, ◌∙◌, List, ◌∷◌, Bool, true, false, eqb, length, set, get_or, replicate, arith, get_or-set_same, get_or-set_other, length-set, w32}
+use Rattle.std.proofs.lemmas.Nat.Bits.{bit_at-lt, bit_at_lowest, bit_at-suc, bit_at_or, bit_at_xor, bit_at-pow_same, bit_at-pow_other, bit_at-trailing_zeros}
+use Rattle.std.proofs.lemmas.Grind.{one_shifted}
+use Rattle.std.specs.Int.{bit_at}
+use native.Mathlib.Decide.{ℕ_discrete}
+use native.Mathlib.Nat.{pow-suc}
+use lib.Bits.{bit_or, bit_and, bit_xor, and_step, and_self, and_le_r}
+use lib.Count.{count_trailing_zeros, under, ones, ones_step, ones-ones, ones-le, trailing_le}
+use lib.Seq.{ext_get_or}
 use Rattle.meaning.specs.Sets.{first, how_many, zip, or, differ}
+use Rattle.theory.proofs.Bools.{zip_length, zip_at}
+use Rattle.checker.specs.Bits.{bits_of}
 
 -- a digit is 0 or 1
-digit : (x : ℕ) → (x % 2 ≡ 0) ⊎ (x % 2 ≡ 1)
-digit x = go (x % 2) refl
+by_digit : (P : ℕ → Type 0) (x : ℕ) → P 0 → P 1 → P (x % 2)
+by_digit P x none one = go (x % 2) (omega arith)
   where
-    go : (r : ℕ) → x % 2 ≡ r → (x % 2 ≡ 0) ⊎ (x % 2 ≡ 1)
-    go zero e = inl e
-    go (suc zero) e = inr e
-    go (suc (suc r)) e = absurd (omega arith)
-
-pub has_bit : (d x i : ℕ) → i < d → eqb (x / 2 ^ i % 2) 1 ≡ get_or (bits_of d x) i false
-unfolding bits_of
-has_bit zero x i h = absurd (not-suc-le-zero h)
-has_bit (suc d) x zero h = let e : x / 2 ^ 0 ≡ x = omega arith in rw e
-has_bit (suc d) x (suc i) h =
-    let e : x / 2 ^ suc i ≡ x / 2 / 2 ^ i = ap (λ (k : ℕ). x / 2 ^ k) (omega arith) ∙ sym (shr-shr x 1 i) in
-    rw e (has_bit d (x / 2) i (le_of_suc-le-suc h))
-
--- a number put together from its half and its lowest digit
-cons : (d h m : ℕ) → m < 2 → bits_of (suc d) (h * 2 + m) ≡ eqb m 1 ∷ bits_of d h
-unfolding bits_of
-cons d h m p =
-    let q : (h * 2 + m) % 2 ≡ m = omega arith in
-    let r : (h * 2 + m) / 2 ≡ h = omega arith in
-    rw (q, r)
-
-or_cons : (d x y : ℕ) → bits_of (suc d) (bit_or x y) ≡ eqb (max (x % 2) (y % 2)) 1 ∷ bits_of d (bit_or (x / 2) (y / 2))
-or_cons d x y = ap (bits_of (suc d)) (or_step x y) ∙ cons d (bit_or (x / 2) (y / 2)) (max (x % 2) (y % 2)) (omega arith)
-
-and_cons : (d x y : ℕ) → bits_of (suc d) (bit_and x y) ≡ eqb (min (x % 2) (y % 2)) 1 ∷ bits_of d (bit_and (x / 2) (y / 2))
-and_cons d x y = ap (bits_of (suc d)) (and_step x y) ∙ cons d (bit_and (x / 2) (y / 2)) (min (x % 2) (y % 2)) (omega arith)
-
-bits_suc : (d x : ℕ) → bits_of (suc d) x ≡ eqb (x % 2) 1 ∷ bits_of d (x / 2)
-unfolding bits_of
-bits_suc d x = refl
-
-pub or_bit : (d x i : ℕ) → i < d → bits_of d (bit_or x (2 ^ i)) ≡ set (bits_of d x) i true
-or_bit zero x i h = absurd (not-suc-le-zero h)
-or_bit (suc d) x zero h =
-    let m : max (x % 2) 1 ≡ 1 = omega arith in
-    rw (or_cons d x 1, bits_suc d x, m, or_zero_r (x / 2))
-or_bit (suc d) x (suc i) h =
-    let a : 2 ^ suc i / 2 ≡ 2 ^ i = omega (arith, pow-suc 2 i) in
-    let b : 2 ^ suc i % 2 ≡ 0 = omega (arith, pow-suc 2 i) in
-    let m : max (x % 2) 0 ≡ x % 2 = omega arith in
-    rw (or_cons d x (2 ^ suc i), bits_suc d x, a, b, m, or_bit d (x / 2) i (le_of_suc-le-suc h))
-
-low_step : (d x : ℕ) → count_trailing_zeros d (x / 2) ≡ first (bits_of d (x / 2)) → (x % 2 ≡ 0) ⊎ (x % 2 ≡ 1) → count_trailing_zeros (suc d) x ≡ first (bits_of (suc d) x)
-unfolding bits_of first count_trailing_zeros
-low_step d x ih (inl e) = rw e (ap suc ih)
-low_step d x ih (inr e) = rw e
-
-pub low_bit : (d x : ℕ) → count_trailing_zeros d x ≡ first (bits_of d x)
-unfolding bits_of first count_trailing_zeros
-low_bit zero x = refl
-low_bit (suc d) x = low_step d x (low_bit d (x / 2)) (digit x)
-
--- clearing the lowest digit that is set
-and_low_step : (d x : ℕ) → 0 < x → (0 < x / 2 → bits_of d (bit_and (x / 2) (x / 2 - 1)) ≡ set (bits_of d (x / 2)) (first (bits_of d (x / 2))) false) → (x % 2 ≡ 0) ⊎ (x % 2 ≡ 1)
-    → bits_of (suc d) (bit_and x (x - 1)) ≡ set (bits_of (suc d) x) (first (bits_of (suc d) x)) false
-unfolding first
-and_low_step d x h ih (inl e) =
-    let a : (x - 1) / 2 ≡ x / 2 - 1 = omega arith in
-    let b : (x - 1) % 2 ≡ 1 = omega arith in
-    rw (and_cons d x (x - 1), bits_suc d x, e, a, b) (ap (λ (l : List Bool). false ∷ l) (ih (omega arith)))
-and_low_step d x h ih (inr e) =
-    let a : (x - 1) / 2 ≡ x / 2 = omega arith in
-    let b : (x - 1) % 2 ≡ 0 = omega arith in
-    rw (and_cons d x (x - 1), bits_suc d x, e, a, b, and_self (x / 2))
-
-pub and_low : (d x : ℕ) → 0 < x → bits_of d (bit_and x (x - 1)) ≡ set (bits_of d x) (first (bits_of d x)) false
-unfolding bits_of first
-and_low zero x h = refl
-and_low (suc d) x h = and_low_step d x h (λ p. and_low d (x / 2) p) (digit x)
-
-pub and_less : (x : ℕ) → 0 < x → bit_and x (x - 1) < x
-and_less x h = omega (arith, and_le_r x (x - 1))
-
-ones_bits_step : (d x : ℕ) → ones (x / 2) ≡ how_many (bits_of d (x / 2)) → (x % 2 ≡ 0) ⊎ (x % 2 ≡ 1) → ones x ≡ how_many (bits_of (suc d) x)
-unfolding bits_of how_many
-ones_bits_step d x ih (inl e) = rw e (omega (arith, ones_step x))
-ones_bits_step d x ih (inr e) = rw e (omega (arith, ones_step x))
-
-pub ones_bits : (d x : ℕ) → x < 2 ^ d → ones x ≡ how_many (bits_of d x)
-unfolding bits_of how_many
-ones_bits zero x h = let e : x ≡ 0 = omega arith in rw e (ones-ones 0)
-ones_bits (suc d) x h = ones_bits_step d x (ones_bits d (x / 2) (omega (arith, pow-suc 2 d))) (digit x)
-
--- ---- two sets at once. A digit operation h on 0 and 1 that is the Bool operation k
-digits_as : (h : ℕ → ℕ → ℕ) (k : Bool → Bool → Bool) → eqb (h 0 0) 1 ≡ k false false → eqb (h 0 1) 1 ≡ k false true → eqb (h 1 0) 1 ≡ k true false → eqb (h 1 1) 1 ≡ k true true
-    → (x y : ℕ) → eqb (h (x % 2) (y % 2)) 1 ≡ k (eqb (x % 2) 1) (eqb (y % 2) 1)
-digits_as h k a b c d x y = go (digit x) (digit y)
-  where
-    go : (x % 2 ≡ 0) ⊎ (x % 2 ≡ 1) → (y % 2 ≡ 0) ⊎ (y % 2 ≡ 1) → eqb (h (x % 2) (y % 2)) 1 ≡ k (eqb (x % 2) 1) (eqb (y % 2) 1)
-    go (inl p) (inl q) = rw (p, q) a
-    go (inl p) (inr q) = rw (p, q) b
-    go (inr p) (inl q) = rw (p, q) c
-    go (inr p) (inr q) = rw (p, q) d
-
-xor_cons : (d x y : ℕ) → bits_of (suc d) (bit_xor x y) ≡ eqb (bits.differ (x % 2) (y % 2)) 1 ∷ bits_of d (bit_xor (x / 2) (y / 2))
-xor_cons d x y = ap (bits_of (suc d)) (xor_step x y) ∙ cons d (bit_xor (x / 2) (y / 2)) (bits.differ (x % 2) (y % 2)) (below (digit x) (digit y))
-  where
-    below : (x % 2 ≡ 0) ⊎ (x % 2 ≡ 1) → (y % 2 ≡ 0) ⊎ (y % 2 ≡ 1) → bits.differ (x % 2) (y % 2) < 2
-    below (inl p) (inl q) = rw (p, q) (lit< tt)
-    below (inl p) (inr q) = rw (p, q) (lit< tt)
-    below (inr p) (inl q) = rw (p, q) (lit< tt)
-    below (inr p) (inr q) = rw (p, q) (lit< tt)
-
-bits_zero : (x : ℕ) → bits_of 0 x ≡ []
-unfolding bits_of
-bits_zero x = refl
-
-pub or_bits : (d x y : ℕ) → bits_of d (bit_or x y) ≡ zip or (bits_of d x) (bits_of d y)
-unfolding zip
-or_bits zero x y = rw (bits_zero (bit_or x y), bits_zero x)
-or_bits (suc d) x y = rw (or_cons d x y, bits_suc d x, bits_suc d y, digits_as max or refl refl refl refl x y, or_bits d (x / 2) (y / 2))
-
-pub xor_bits : (d x y : ℕ) → bits_of d (bit_xor x y) ≡ zip differ (bits_of d x) (bits_of d y)
-unfolding zip
-xor_bits zero x y = rw (bits_zero (bit_xor x y), bits_zero x)
-xor_bits (suc d) x y = rw (xor_cons d x y, bits_suc d x, bits_suc d y, digits_as bits.differ differ refl refl refl refl x y, xor_bits d (x / 2) (y / 2))
+    go : (r : ℕ) → r < 2 → P r
+    go zero l = none
+    go (suc zero) l = one
+    go (suc (suc r)) l = absurd (omega arith)
 
 pub bits_none : (d : ℕ) → bits_of d 0 ≡ replicate d false
 unfolding bits_of
@@ -146,18 +31,83 @@ unfolding bits_of
 bits_length zero x = refl
 bits_length (suc d) x = ap suc (bits_length d (x / 2))
 
--- a number that is not 0 has a member
-some_step : (d x : ℕ) → 0 < x → (0 < x / 2 → first (bits_of d (x / 2)) < d) → (x % 2 ≡ 0) ⊎ (x % 2 ≡ 1) → first (bits_of (suc d) x) < suc d
+pub has_bit : (d x i : ℕ) → i < d → eqb (x / 2 ^ i % 2) 1 ≡ get_or (bits_of d x) i false
+unfolding bits_of
+has_bit zero x i h = absurd (omega arith)
+has_bit (suc d) x zero h = rw (bit_at_lowest x)
+has_bit (suc d) x (suc i) h = rw (bit_at-suc x i) (has_bit d (x / 2) i (omega arith))
+
+-- a number's digits, one by one
+by_bits : (d x : ℕ) (l : List Bool) → length l ≡ d → ((i : ℕ) → i < d → eqb (bit_at x i) 1 ≡ get_or l i false) → bits_of d x ≡ l
+by_bits d x l e h =
+    ext_get_or false (bits_of d x) l (bits_length d x ∙ sym e) (λ i k. let m : i < d = omega (arith, bits_length d x) in sym (has_bit d x i m) ∙ h i m)
+
+pub or_bit : (d x i : ℕ) → i < d → bits_of d (bit_or x (2 ^ i)) ≡ set (bits_of d x) i true
+or_bit d x i h = by_bits d (bit_or x (2 ^ i)) (set (bits_of d x) i true) (length-set (bits_of d x) i true ∙ bits_length d x) (λ j l. rw (bit_at_or x (2 ^ i) j) (go j l (ℕ_discrete j i)))
+  where
+    go : (j : ℕ) → j < d → Dec (j ≡ i) → eqb (max (bit_at x j) (bit_at (2 ^ i) j)) 1 ≡ get_or (set (bits_of d x) i true) j false
+    go j l (yes e) =
+        let m : max (bit_at x i) 1 ≡ 1 = omega (arith, bit_at-lt x i) in
+        rw (e, bit_at-pow_same i, m) (sym (get_or-set_same (bits_of d x) i true false (omega (arith, bits_length d x))))
+    go j l (no n) =
+        let m : max (bit_at x j) 0 ≡ bit_at x j = omega arith in
+        rw (bit_at-pow_other i j n, m, get_or-set_other (bits_of d x) i j true false n) (has_bit d x j l)
+
+-- an operation h on two digits that is k on the Bools
+module _ (op h : ℕ → ℕ → ℕ) (k : Bool → Bool → Bool) (each : (x y i : ℕ) → bit_at (op x y) i ≡ h (bit_at x i) (bit_at y i))
+    (a : eqb (h 0 0) 1 ≡ k false false) (b : eqb (h 0 1) 1 ≡ k false true) (c : eqb (h 1 0) 1 ≡ k true false) (e : eqb (h 1 1) 1 ≡ k true true) (z : k false false ≡ false) where
+  both : (d x y : ℕ) → bits_of d (op x y) ≡ zip k (bits_of d x) (bits_of d y)
+  both d x y =
+      let same = bits_length d x ∙ sym (bits_length d y) in
+      by_bits d (op x y) (zip k (bits_of d x) (bits_of d y)) (zip_length k (bits_of d x) (bits_of d y) same ∙ bits_length d x)
+      (λ i l. rw (each x y i, zip_at k z (bits_of d x) (bits_of d y) i same, ← has_bit d x i l, ← has_bit d y i l)
+      (by_digit (λ m. eqb (h m (bit_at y i)) 1 ≡ k (eqb m 1) (eqb (bit_at y i) 1)) (x / 2 ^ i)
+      (by_digit (λ n. eqb (h 0 n) 1 ≡ k false (eqb n 1)) (y / 2 ^ i) a b)
+      (by_digit (λ n. eqb (h 1 n) 1 ≡ k true (eqb n 1)) (y / 2 ^ i) c e)))
+
+pub or_bits : (d x y : ℕ) → bits_of d (bit_or x y) ≡ zip or (bits_of d x) (bits_of d y)
+or_bits = both bit_or max or bit_at_or refl refl refl refl refl
+
+pub xor_bits : (d x y : ℕ) → bits_of d (bit_xor x y) ≡ zip differ (bits_of d x) (bits_of d y)
+xor_bits = both bit_xor (λ m n. (m + n) % 2) differ bit_at_xor refl refl refl refl refl
+
+pub low_bit : (d x : ℕ) → count_trailing_zeros d x ≡ first (bits_of d x)
+unfolding bits_of first count_trailing_zeros
+low_bit zero x = refl
+low_bit (suc d) x = by_digit (λ r. under r (count_trailing_zeros d (x / 2)) ≡ first (eqb r 1 ∷ bits_of d (x / 2))) x (ap suc (low_bit d (x / 2))) refl
+
+-- clearing the lowest digit that is set
+cleared : (d x y : ℕ) → min (x % 2) (y % 2) ≡ 0 → bits_of (suc d) (bit_and x y) ≡ false ∷ bits_of d (bit_and (x / 2) (y / 2))
+unfolding bits_of
+cleared d x y m =
+    let h = bit_and (x / 2) (y / 2) in
+    let q : (h * 2 + 0) % 2 ≡ 0 = omega arith in
+    let r : (h * 2 + 0) / 2 ≡ h = omega arith in
+    rw (and_step x y, m, q, r)
+
+pub and_low : (d x : ℕ) → 0 < x → bits_of d (bit_and x (x - 1)) ≡ set (bits_of d x) (first (bits_of d x)) false
 unfolding bits_of first
-some_step d x h ih (inl e) = rw e (let k = ih (omega arith) in omega arith)
-some_step d x h ih (inr e) = rw e (omega arith)
+and_low zero x h = refl
+and_low (suc d) x h =
+    let clear = λ (r : ℕ). set (eqb r 1 ∷ bits_of d (x / 2)) (first (eqb r 1 ∷ bits_of d (x / 2))) false in
+    cleared d x (x - 1) (omega arith)
+    ∙ by_digit (λ r. x % 2 ≡ r → false ∷ bits_of d (bit_and (x / 2) ((x - 1) / 2)) ≡ clear r) x
+    (λ e. let a : (x - 1) / 2 ≡ x / 2 - 1 = omega arith in rw a (ap (λ (l : List Bool). false ∷ l) (and_low d (x / 2) (omega arith))))
+    (λ e. let a : (x - 1) / 2 ≡ x / 2 = omega arith in rw (a, and_self (x / 2)))
+    refl
 
-pub some_bit : (d x : ℕ) → x < 2 ^ d → 0 < x → first (bits_of d x) < d
-some_bit zero x l h = absurd (omega arith)
-some_bit (suc d) x l h = some_step d x h (λ k. some_bit d (x / 2) (omega (arith, pow-suc 2 d)) k) (digit x)
+pub and_less : (x : ℕ) → 0 < x → bit_and x (x - 1) < x
+and_less x h = omega (arith, and_le_r x (x - 1))
 
--- a set with a first member is not 0
-pub some : (x : ℕ) → first (bits_of 32 x) < 32 → 0 < x
-unfolding first bits_of
-some zero h = absurd (omega arith)
-some (suc x) h = omega arith
+pub ones_bits : (d x : ℕ) → x < 2 ^ d → ones x ≡ how_many (bits_of d x)
+unfolding bits_of how_many
+ones_bits zero x h = let e : x ≡ 0 = omega arith in rw e (ones-ones 0)
+ones_bits (suc d) x h =
+    let ih = ones_bits d (x / 2) (omega (arith, pow-suc 2 d)) in
+    rw (ones_step x, ih) (by_digit (λ r. r + how_many (bits_of d (x / 2)) ≡ how_many (eqb r 1 ∷ bits_of d (x / 2))) x (omega arith) (omega arith))
+
+-- what the check tries at each operation of the module `sets`
+pub some_bit : (x : ℕ) → 0 < x → x < 2 ^ 32 → count_trailing_zeros 32 x < 32
+some_bit x h l = (bit_at-trailing_zeros w32 x h l).0
+
+pub ruleset laws = (has_bit, or_bit, one_shifted, low_bit, trailing_le, some_bit, and_low, and_less, ones_bits, ones-le, or_bits, xor_bits)

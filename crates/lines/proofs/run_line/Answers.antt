@@ -1,10 +1,9 @@
--- `run_line` meets its contract: no run is asked for, or its answer is written. Assumes nothing.
-use mathlib.Core.Path.{sym, ◌∙◌}
-use Rattle.lines.proofs.Requests.{line_when_asked, line_when_bad}
+-- What is laid is the line of what the input asks for.
+use Rattle.lines.proofs.Requests.{line_of_none, line_of_some}
 use Rattle.lines.proofs.run_line.Goals as goal
 
-pub returns-then-well_formed : goal.returns-then-well_formed
-returns-then-well_formed c = rw (c.answer_to-answer.ensures, line_when_asked _ (sym c.well_formed-2.ensures ∙ c.if-well_formed.true)) at c.answer_line.ensures
+pub returns-in_default : goal.returns-in_default
+returns-in_default c = rw (line_of_none _ (rw c.in_default.is at c.parse.ensures)) at c.lay.ensures
 
 pub returns : goal.returns
-returns c = rw (line_when_bad _ (sym c.well_formed-2.ensures ∙ c.if-well_formed.false)) at c.bad_input.ensures
+returns c = rw (c.as_str.ensures.value, c.answer_line.ensures, c.answer.ensures, line_of_some _ _ (rw c.in-Some.is at c.parse.ensures)) at c.lay-2.ensures

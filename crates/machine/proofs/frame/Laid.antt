@@ -1,6 +1,9 @@
 -- Words laid from a place on: where they are, the loops that lay them one by one, and one or two laid without a loop. Assumes nothing.
-use Rattle.std.proofs.Common.{◌≡◌, ℕ, zero, suc, ◌+◌, ◌-◌, ◌<◌, ◌≤◌, Bool, true, false, eqb, ◌⊎◌, List, [], ◌∷◌, length, get_or, drop, set, replicate, sym, refl, ap, ◌∙◌, subst, inl, inr, arith, length-set, drop_of_length-le, drop-cons, get_or-set_other, get_or-set_same, drop-set-lt, eqb-true}
+use Rattle.std.proofs.Common.{◌≡◌, ℕ, zero, suc, ◌+◌, ◌-◌, ◌<◌, ◌≤◌, Bool, true, false, eqb, ◌⊎◌, List, [], ◌∷◌, ◌++◌, length, get_or, take, drop, set, replicate, sym, refl, ap, ◌∙◌, subst, inl, inr, arith, append_assoc, length-set, drop-drop, get_or-set_other, get_or-set_same, drop-set-lt, eqb-true}
 use borrow.Author.Tests.{eqb-false}
+use borrow.Rule.Slice.PartMut.{put_mid}
+use Rattle.std.proofs.Math.Seq.{take-append_seam}
+use Rattle.std.proofs.lemmas.List.{take-append-drop, take_more_set}
 use Rattle.machine.specs.Layout.{laid, words, gathered, slot_in, Low, Rising, Apart}
 use Rattle.standing.specs.Bytes.{byte_at}
 
@@ -151,33 +154,27 @@ unfolding gathered
 gathered_length bytes work base at zero = refl
 gathered_length bytes work base at (suc n) = ap suc (gathered_length bytes work base (at + 1) n)
 
-words_laid : (l : List ℕ) (p : ℕ) (ws : List ℕ) → p + length ws ≤ length l → words (laid l p ws) p (length ws) ≡ ws
-unfolding laid words
-words_laid l p [] h = refl
-words_laid l p (w ∷ ws) h =
+-- words laid at once
+pub laid_flat : (l : List ℕ) (p : ℕ) (ws : List ℕ) → p + length ws ≤ length l → laid l p ws ≡ take p l ++ (ws ++ drop (length ws) (drop p l))
+unfolding laid
+laid_flat l p [] h = sym (take-append-drop p l)
+laid_flat l p (w ∷ ws) h =
     let z = length-set l p w in
-    let a = laid_before (set l p w) (p + 1) ws p (omega arith) ∙ get_or-set_same l p w 0 (omega arith) in
-    let b = words_laid (set l p w) (p + 1) ws (omega arith) in
-    λ i. a i ∷ b i
+    let a = laid_flat (set l p w) (p + 1) ws (omega arith) in
+    let t = take_more_set l p w (omega arith) in
+    let d = drop-set-lt (p + 1) l p w (omega arith) in
+    let n : p + 1 + length ws ≡ p + suc (length ws) = omega arith in
+    let b = drop-drop (length ws) (p + 1) l ∙ ap (λ k. drop k l) n ∙ sym (drop-drop (suc (length ws)) p l) in
+    a ∙ (λ i. t i ++ (ws ++ drop (length ws) (d i))) ∙ append_assoc (take p l) (w ∷ []) (ws ++ drop (length ws) (drop (p + 1) l)) ∙ (λ i. take p l ++ (w ∷ (ws ++ b i)))
 
 -- words gathered in an array, and laid from it
-pub gathered_laid : (bytes work : List ℕ) (base at n : ℕ) → n ≤ 8 → words (laid (replicate 8 0) 0 (gathered bytes work base at n)) 0 n ≡ gathered bytes work base at n
-gathered_laid bytes work base at n h =
-    let e = gathered_length bytes work base at n in
-    let w : List ℕ = gathered bytes work base at n in
-    subst (λ k. words (laid (replicate 8 0) 0 w) 0 k ≡ w) e (words_laid (replicate 8 0) 0 w (let z : 0 + length w ≤ 8 = omega (arith, e) in z))
-
--- all words of a list
-words_from : (l : List ℕ) (p k : ℕ) → p + k ≡ length l → words l p k ≡ drop p l
-unfolding words
-words_from l p zero e = sym (drop_of_length-le l (let h : length l ≤ p = omega arith in h))
-words_from l p (suc k) e =
-    let h : p < length l = omega arith in
-    let z : p + 1 ≡ suc p = omega arith in
-    (λ i. get_or l p 0 ∷ words l (z i) k) ∙ ap (λ r. get_or l p 0 ∷ r) (words_from l (suc p) k (omega arith)) ∙ sym (drop-cons l p 0 h)
-
-pub words_all : (l : List ℕ) → words l 0 (length l) ≡ l
-words_all l = words_from l 0 (length l) (omega arith)
+pub gathered_laid : (bytes work : List ℕ) (base at n k : ℕ) {vs ws : List ℕ} → n ≤ 8 → base + 256 ≤ length work → k ≡ n → vs ≡ laid (replicate 8 0) 0 (gathered bytes work base at n) → ws ≡ take n vs
+    → put_mid base k work ws ≡ laid work base (gathered bytes work base at n)
+gathered_laid bytes work base at n k {vs} {ws} h b e v w =
+    let g : List ℕ = gathered bytes work base at n in
+    let l : length g ≡ n = gathered_length bytes work base at n in
+    let f : ws ≡ g = w ∙ ap (take n) (v ∙ laid_flat (replicate 8 0) 0 g (let z : 0 + length g ≤ 8 = omega arith in z)) ∙ ap (λ m. take m (g ++ drop (length g) (replicate 8 0))) (sym l) ∙ take-append_seam g (drop (length g) (replicate 8 0)) in
+    (λ i. take base work ++ (f i ++ drop ((e ∙ sym l) i) (drop base work))) ∙ sym (laid_flat work base g (omega arith))
 
 -- the one word that is gathered is set
 pub laid_one : (l bytes work : List ℕ) (to base at n : ℕ) → n ≡ 1 → set l to (slot_in bytes work base at) ≡ laid l to (gathered bytes work base at n)

@@ -17,11 +17,11 @@ use Rattle.theory.proofs.StartWalk.{visits_grows}
 use Rattle.theory.proofs.StartReached.{drain_grows}
 use Rattle.theory.proofs.StartWords.{any_false}
 use Rattle.machine.specs.StartWords.{word_fine, mode_at, number_arg, tree_arg, all_from}
-use Rattle.machine.specs.StartArea.{Area, area, cleared, used_once, drain_at, drain_fine, args_fine, owned_begun, owned_area, owned_fine, all_begun, all_area, all_fine, free_begun, free_area, free_fine, judged, answer_at, start_at, outcome}
+use Rattle.machine.specs.StartArea.{Area, area, cleared, used_once, drain_at, drain_fine, args_fine, begun, fresh, reached, reached_fine, owned_area, owned_fine, all_area, all_fine, free_begun, free_area, free_fine, judged, answer_at, start_at, outcome, goal_of}
 use Rattle.machine.proofs.start.Fine.{fine_cell}
 use Rattle.machine.proofs.start.Fields.{and_or}
 use Rattle.machine.proofs.start.Told.{Ground, word_is}
-use Rattle.machine.proofs.start.Simulate.{Rep, Aim, goal_of, or_not, chosen_in, chosen_out, drain_rep, drain_fine_lem, args_rep, begin_rep}
+use Rattle.machine.proofs.start.Simulate.{Rep, Aim, or_not, chosen_in, chosen_out, drain_rep, drain_fine_lem, args_rep, begin_rep}
 use Rattle.machine.proofs.start.Cleared.{cleared_length, cleared_zero, cleared_under}
 use Rattle.machine.proofs.start.Single.{none_held, free_in}
 
@@ -57,7 +57,7 @@ neither false false e = (refl, refl)
 ends : (n o l q₁ q₂ v p u : Bool) → (p ≡ false → u ≡ false)
     → outcome (judged (not n) (not (o || q₁)) (not (l || q₂)) (not v) (not p) u)
     ≡ first ((n || (o || (l || (q₁ || q₂))), 22) ∷ (v, 23) ∷ (u, 24) ∷ [])
-unfolding outcome judged first pick
+unfolding judged first pick
 ends true o l q₁ q₂ v p u h = refl
 ends false true l q₁ q₂ v p u h = refl
 ends false false true true q₂ v p u h = refl
@@ -170,12 +170,12 @@ module _ (bytes table codes store args : List ℕ) (g : Ground bytes table codes
     abbrev begin₀ : Rep codes store 0 w₀ once 0 (walk [] []) (area w₀ 0)
     begin₀ = begin_rep bytes table codes store g 0 w₀ once aim₀ (λ x h. cleared_zero 0 cells work x (omega (arith, few_cells)) (in_cells x h))
 
-    owned_begun_lem : Rep codes store 0 w₀ once (0 + length args) (visits once (walk [] []) (named cs store owned)) (owned_begun bytes table codes store args work)
+    owned_begun_lem : Rep codes store 0 w₀ once (0 + length args) (visits once (walk [] []) (named cs store owned)) (begun bytes table codes store args 0 2 (fresh bytes table codes store args 0 work))
     owned_begun_lem =
         args_rep bytes table codes store g 0 w₀ once aim₀ args is_owned 2 owned_mode (length args) 0 0 ms _ _ many (omega arith) listed (omega (arith, short)) begin₀
 
     owned_rep : Rep codes store 0 w₀ once (0 + length args + 4 * 1024) (owned_walk cs store owned) (owned_area bytes table codes store args work)
-    unfolding owned_walk owned_area
+    unfolding owned_walk reached
     owned_rep = drain_rep bytes table codes store g 0 w₀ once aim₀ 1024 0 (0 + length args) _ _ (omega (arith, short)) owned_begun_lem
 
     abbrev ownedₐ : Area
@@ -193,16 +193,16 @@ module _ (bytes table codes store args : List ℕ) (g : Ground bytes table codes
     abbrev all_begins : Walk
     all_begins = visits once (owned_walk cs store owned) (named cs store lent)
 
-    all_begun_lem : Rep codes store 0 w₀ once all_steps all_begins (all_begun bytes table codes store args ownedₐ)
+    all_begun_lem : Rep codes store 0 w₀ once all_steps all_begins (begun bytes table codes store args 0 1 ownedₐ)
     all_begun_lem =
         args_rep bytes table codes store g 0 w₀ once aim₀ args is_lent 1 lent_mode (length args) 0 (0 + length args + 4 * 1024) ms (owned_walk cs store owned) ownedₐ many (omega arith) listed (omega (arith, short)) owned_rep
 
     all_rep : Rep codes store 0 w₀ once (all_steps + 4 * 1024) (all_walk cs store owned lent) allₐ
-    unfolding all_walk all_area
+    unfolding all_walk reached
     all_rep =
         let h = length (owned_walk cs store owned).queue in
-        subst (λ (k : ℕ). Rep codes store 0 w₀ once (all_steps + 4 * 1024) (drain (kids cs store) once 1024 h all_begins) (drain_at codes store 0 1024 k (all_begun bytes table codes store args ownedₐ))) (sym owned_rep.tails)
-        (drain_rep bytes table codes store g 0 w₀ once aim₀ 1024 h all_steps all_begins (all_begun bytes table codes store args ownedₐ) (omega (arith, short)) all_begun_lem)
+        subst (λ (k : ℕ). Rep codes store 0 w₀ once (all_steps + 4 * 1024) (drain (kids cs store) once 1024 h all_begins) (drain_at codes store 0 1024 k (begun bytes table codes store args 0 1 ownedₐ))) (sym owned_rep.tails)
+        (drain_rep bytes table codes store g 0 w₀ once aim₀ 1024 h all_steps all_begins (begun bytes table codes store args 0 1 ownedₐ) (omega (arith, short)) all_begun_lem)
 
     -- ---- the second walk
     abbrev w₁ : List ℕ
@@ -269,19 +269,19 @@ module _ (bytes table codes store args : List ℕ) (g : Ground bytes table codes
     own_queue = (owned_walk cs store owned).queue
 
     owned_test : owned_fine bytes table codes store args work ≡ not (any bad owned || any bad_cell own_queue)
-    unfolding owned_fine owned_walk
+    unfolding reached_fine owned_walk
     owned_test =
         ap₂ (λ x y. pick x y false) owned_args
-        (drain_fine_lem bytes table codes store g 0 w₀ once aim₀ 1024 0 (0 + length args) (visits once (walk [] []) (named cs store owned)) (owned_begun bytes table codes store args work) (omega (arith, short)) (omega arith) owned_begun_lem)
+        (drain_fine_lem bytes table codes store g 0 w₀ once aim₀ 1024 0 (0 + length args) (visits once (walk [] []) (named cs store owned)) (begun bytes table codes store args 0 2 (fresh bytes table codes store args 0 work)) (omega (arith, short)) (omega arith) owned_begun_lem)
         ∙ or_not (any bad owned) (any bad_cell own_queue)
 
     lent_test : all_fine bytes table codes store args ownedₐ ≡ not (any bad lent || any bad_cell (drop (length own_queue) queue))
-    unfolding all_fine all_walk
+    unfolding reached_fine all_walk
     lent_test =
         let h = length own_queue in
         ap₂ (λ x y. pick x y false) lent_args
-        (subst (λ (k : ℕ). drain_fine codes store 0 1024 k (all_begun bytes table codes store args ownedₐ) ≡ not (any bad_cell (drop h queue))) (sym owned_rep.tails)
-        (drain_fine_lem bytes table codes store g 0 w₀ once aim₀ 1024 h all_steps all_begins (all_begun bytes table codes store args ownedₐ) (omega (arith, short)) (omega arith) all_begun_lem))
+        (subst (λ (k : ℕ). drain_fine codes store 0 1024 k (begun bytes table codes store args 0 1 ownedₐ) ≡ not (any bad_cell (drop h queue))) (sym owned_rep.tails)
+        (drain_fine_lem bytes table codes store g 0 w₀ once aim₀ 1024 h all_steps all_begins (begun bytes table codes store args 0 1 ownedₐ) (omega (arith, short)) (omega arith) all_begun_lem))
         ∙ or_not (any bad lent) (any bad_cell (drop h queue))
 
     abbrev shared : ℕ → Bool

@@ -1,8 +1,16 @@
 -- What clearing some counts, and wiping the work area, leave. Assumes nothing.
-use Rattle.std.proofs.Common.{◌≡◌, ℕ, zero, suc, ◌+◌, ◌-◌, ◌<◌, ◌≤◌, List, ◌++◌, length, get_or, drop, set, replicate, sym, refl, ap, ◌∙◌, ⊎_elim, arith, length-drop, length-set, get_or-drop, get_or-set_other, get_or-set_same, ext_get_or}
+use Rattle.std.proofs.Common.{◌≡◌, ℕ, zero, suc, ◌+◌, ◌-◌, ◌<◌, ◌≤◌, List, ◌++◌, length, get_or, drop, set, replicate, sym, refl, ap, ◌∙◌, ⊎_elim, add-one, arith, length-drop, length-set, get_or-drop, get_or-set_other, get_or-set_same, ext_get_or}
+use Rattle.std.proofs.lemmas.List.Edits.{paste_none, fill_from_more}
+use lib.Seq.{paste}
 use Rattle.meaning.specs.Answers.{wiped}
 use Rattle.theory.proofs.StartCounting.{same?}
 use Rattle.machine.specs.StartArea.{cleared}
+
+pub cleared_paste : (base n : ℕ) (l : List ℕ) → base + n ≤ length l → paste l base (replicate n 0) n ≡ cleared base n l
+unfolding cleared
+cleared_paste base zero l h = sym (paste_none l base (replicate 0 0))
+cleared_paste base (suc n) l h =
+    ap (λ j. paste l base (replicate j 0) j) (sym (add-one n)) ∙ sym (fill_from_more l base n 0 (omega arith)) ∙ ap (λ x. set x (base + n) 0) (cleared_paste base n l (omega arith))
 
 pub cleared_length : (base n : ℕ) (l : List ℕ) → length (cleared base n l) ≡ length l
 unfolding cleared

@@ -1,14 +1,15 @@
 -- The code of a constructor: from its bytes, and what tests by its bits say of the sorts that are declared. Assumes nothing.
-use Rattle.std.proofs.Common.{◌≡◌, ℕ, zero, suc, ◌+◌, ◌*◌, ◌/◌, ◌%◌, ◌<◌, ◌≤◌, Bool, true, false, not, ◌||◌, eqb, ltb, List, [], ◌∷◌, length, get_or, set, replicate, sym, refl, ◌∙◌, subst, ap₂, ⊎_elim, arith, get_or-set_other, get_or-set_same, le-ltb, lt-ltb, ne_eqb, le-leb}
+use Rattle.std.proofs.Common.{◌≡◌, ℕ, zero, suc, ◌+◌, ◌*◌, ◌/◌, ◌%◌, ◌<◌, ◌≤◌, Bool, true, false, not, ◌||◌, eqb, ltb, List, [], ◌∷◌, length, get_or, map, take, sym, refl, ◌∙◌, subst, ap₂, ⊎_elim, arith, ne_eqb, le-leb}
 use borrow.Author.Tests.{lt-leb}
+use Rattle.std.proofs.lemmas.List.{length-take, length-map, get_or-take, get_or-map, ext_get_or}
 use Rattle.meaning.specs.Choice.{pick}
 use Rattle.meaning.specs.Syntax.{Sort, Constructor, File}
 use Rattle.meaning.specs.Reading.{is_atom}
 use Rattle.meaning.specs.Start.{any, is_number, number_words, tree_words}
 use Rattle.standing.specs.Bytes.{fields_in}
 use Rattle.standing.specs.Table.{Sorts, Declared}
-use Rattle.theory.proofs.StartCounting.{le?, same?}
-use Rattle.machine.specs.StartWords.{code_of, code_in, Coded, bit_at, code_from, number_fine, numbers_fine, field_fine, trees_fine, word_fine}
+use Rattle.theory.proofs.StartCounting.{le?}
+use Rattle.machine.specs.StartWords.{code_of, Coded, bit_at, code_from, number_fine, numbers_fine, field_fine, trees_fine, word_fine}
 
 pub and_or : (b r : Bool) → pick b (not r) false ≡ not (not b || r)
 unfolding pick
@@ -16,21 +17,13 @@ and_or true r = refl
 and_or false r = refl
 
 -- 2 to the n
-abbrev pub power : ℕ → ℕ
+abbrev power : ℕ → ℕ
 power zero = 1
 power (suc n) = 2 * power n
 
 power_some : (n : ℕ) → 0 < power n
 power_some zero = omega arith
 power_some (suc n) = let h = power_some n in omega arith
-
--- bits that fit in no place are none; a bit taken off leaves those of one place less
-pub bits_none : (n bits : ℕ) → bits < power n → 0 < bits → 0 < n
-bits_none zero bits h p = absurd (omega arith)
-bits_none (suc n) bits h p = omega arith
-
-pub bits_less : (n m bits : ℕ) → n ≡ suc m → bits < power n → bits / 2 < power m
-bits_less n m bits e h = let k : bits < power (suc m) = subst (λ j. bits < power j) e h in omega arith
 
 -- the bits of the fields that are trees, and of those that are numbers
 abbrev pub trees_of : Constructor → ℕ
@@ -121,63 +114,40 @@ module _ (bytes : List ℕ) (kind : ℕ) where
       let r = from_is n (suc i) ss (omega arith) (left_next i Sort.tree ss l) in
       omega arith
 
--- a code by its number, declared or not
-pub code_in_lem : (cs : List Constructor) (k : ℕ) → k < length cs → code_in cs k ≡ code_of (get_or cs k [])
-unfolding code_in pick
-code_in_lem cs k h = rw (lt-ltb k (length cs) h)
-
-pub code_out : (cs : List Constructor) (k : ℕ) → length cs ≤ k → code_in cs k ≡ 256
-unfolding code_in pick
-code_out cs k h = rw (le-ltb k (length cs) h)
-
--- the codes as they are laid one by one
-pub codes_begin : (n v k : ℕ) → k < n → get_or (replicate n v) k 0 ≡ v
-codes_begin zero v k h = absurd (omega arith)
-codes_begin (suc n) v zero h = refl
-codes_begin (suc n) v (suc k) h = codes_begin n v k (omega arith)
-
-pub codes_turn : (bytes table out : List ℕ) (i v : ℕ) → i < length out
-    → ((k : ℕ) → k < i → (get_or out k 0 ≡ code_from bytes (get_or table k 0) 4 0) × (get_or table k 0 % 256 ≡ 255 → ⊥))
-    → v ≡ code_from bytes (get_or table i 0) 4 0 → (get_or table i 0 % 256 ≡ 255 → ⊥)
-    → (k : ℕ) → k < i + 1 → (get_or (set out i v) k 0 ≡ code_from bytes (get_or table k 0) 4 0) × (get_or table k 0 % 256 ≡ 255 → ⊥)
-codes_turn bytes table out i v l done q n k h =
-    ⊎_elim
-    (λ (e : k ≡ i).
-    subst (λ j. (get_or (set out i v) j 0 ≡ code_from bytes (get_or table j 0) 4 0) × (get_or table j 0 % 256 ≡ 255 → ⊥)) (sym e) (get_or-set_same out i v 0 l ∙ q, n))
-    (λ (e : k ≡ i → ⊥). let d = done k (omega arith) in (get_or-set_other out i k v 0 (λ z. e (omega arith)) ∙ d.0, d.1))
-    (same? k i)
-
-pub codes_left : (out : List ℕ) (i v : ℕ) → ((k : ℕ) → i ≤ k → k < 64 → get_or out k 0 ≡ 256) → (k : ℕ) → i + 1 ≤ k → k < 64 → get_or (set out i v) k 0 ≡ 256
-codes_left out i v left k a b = get_or-set_other out i k v 0 (λ z. omega arith) ∙ left k (omega arith) b
-
 -- the codes of a table, as far as constructors are declared
-module _ (bytes table out : List ℕ) (i : ℕ) (low : i ≤ 64)
+module _ (bytes table out : List ℕ) (i : ℕ) (low : i ≤ 64) (long : i ≤ length out)
     (done : (k : ℕ) → k < i → (get_or out k 0 ≡ code_from bytes (get_or table k 0) 4 0) × (get_or table k 0 % 256 ≡ 255 → ⊥))
-    (left : (k : ℕ) → i ≤ k → k < 64 → get_or out k 0 ≡ 256) (last : i < 64 → get_or table i 0 % 256 ≡ 255) where
-  pub coded : (tree : File) → Declared tree bytes table → Coded tree out
-  coded tree d k l =
+    (last : i < 64 → get_or table i 0 % 256 ≡ 255) where
+  -- all of them, and no more
+  count : (tree : File) → Declared tree bytes table → length tree.constructors ≡ i
+  count tree d =
       let cs = tree.constructors in
+      let most = d.constructors in
       ⊎_elim
-      (λ (p : length cs ≤ k).
+      (λ (p : length cs ≤ i).
       ⊎_elim
-      (λ (q : i ≤ k). left k q l ∙ sym (code_out cs k p))
-      (λ (q : k < i). absurd ((done k q).1 (d.no_constructor k p l)))
-      (le? i k))
-      (λ (p : k < length cs).
-      ⊎_elim
-      (λ (q : i ≤ k).
-      let a : get_or table i 0 % 256 ≡ length (get_or cs i []) = d.arities i (omega arith) in
+      (λ (q : i ≤ length cs). omega arith)
+      (λ (q : length cs < i). absurd ((done (length cs) q).1 (d.no_constructor (length cs) (omega arith) (omega arith))))
+      (le? i (length cs)))
+      (λ (p : i < length cs).
+      let a : get_or table i 0 % 256 ≡ length (get_or cs i []) = d.arities i p in
       let b = last (omega arith) in
       let s = d.small i in
       absurd (omega arith))
-      (λ (q : k < i).
+      (le? (length cs) i)
+
+  pub coded : (tree : File) → Declared tree bytes table → Coded tree (take i out)
+  coded tree d =
+      let cs = tree.constructors in
+      let n = count tree d in
+      let l : length (take i out) ≡ i = length-take i out ∙ omega arith in
+      ext_get_or 0 (take i out) (map code_of cs) (l ∙ sym n ∙ sym (length-map cs code_of))
+      (λ k h.
+      let p : k < length cs = omega arith in
       let e : fields_in table k ≡ get_or table k 0 / 256 + 0 = omega arith in
       let a : get_or table k 0 % 256 ≡ length (get_or cs k []) = d.arities k p in
-      let here : Left bytes (get_or table k 0) 0 (get_or cs k []) =
-      record { ends = omega arith; sorts = subst (λ j. Sorts bytes j (get_or cs k [])) e (d.sorts k p) } in
-      (done k q).0 ∙ from_is bytes (get_or table k 0) 4 0 (get_or cs k []) (d.small k) here ∙ sym (code_in_lem cs k p))
-      (le? i k))
-      (le? (length cs) k)
+      let here : Left bytes (get_or table k 0) 0 (get_or cs k []) = record { ends = omega arith; sorts = subst (λ j. Sorts bytes j (get_or cs k [])) e (d.sorts k p) } in
+      get_or-take i out k 0 (omega arith) ∙ (done k (omega arith)).0 ∙ from_is bytes (get_or table k 0) 4 0 (get_or cs k []) (d.small k) here ∙ sym (get_or-map code_of cs k [] 0 p))
 
 -- one word by its bit
 pub number_set : (bits w : ℕ) → bits % 2 ≡ 1 → number_fine bits w ≡ ltb w 65536

@@ -14,11 +14,11 @@ use Rattle.theory.proofs.StartWalk.{Kept, visit_kept, taken, passed, met, met_co
 use Rattle.theory.proofs.StartReached.{drain_grows}
 use Rattle.theory.proofs.StartWords.{named_cell, named_bad, named_atom}
 use Rattle.machine.specs.StartWords.{word_fine, code_at, inside_fine, mode_at}
-use Rattle.machine.specs.StartArea.{Area, area, counted, bump_to, bump, name_at, field_at, fields_at, expand_at, drain_at, drain_fine, arg_at, args_at}
+use Rattle.machine.specs.StartArea.{Area, area, counted, bump_to, bump, goal_of, name_at, field_at, fields_at, expand_at, drain_at, drain_fine, arg_at, args_at}
 use Rattle.machine.proofs.start.Fine.{fine_cell}
 use Rattle.machine.proofs.start.Turns.{field_other, fields_turn, fields_none}
 use Rattle.machine.proofs.start.Fields.{trees_of}
-use Rattle.machine.proofs.start.Told.{Ground, code_none, small, trees_by, word_is, inside_by, inside_is}
+use Rattle.machine.proofs.start.Told.{Ground, many, small, trees_by, word_is, inside_by, inside_is}
 
 count_length : (x : ℕ) (l : List ℕ) → count x l ≤ length l
 count_length x [] = omega arith
@@ -27,14 +27,6 @@ count_length x (y ∷ l) =
     (λ (e : x ≡ y). omega (arith, count_cons x y l, one_same x y e, count_length x l))
     (λ (e : x ≡ y → ⊥). omega (arith, count_cons x y l, one_other x y e, count_length x l))
     (same? x y)
-
-unfoldable pub goal_of : ℕ → List ℕ → ℕ → ℕ
-goal_of base w c = pick (eqb base 0) 1 (get_or w c 0)
-
-bump_goal : (base : ℕ) (a : Area) (c : ℕ) → bump base a c ≡ bump_to base (goal_of base a.work c) a c
-unfolding bump goal_of pick
-bump_goal base a c =
-    ⊎_elim (λ (e : eqb base 0 ≡ true). simp e) (λ (e : eqb base 0 ≡ false). simp e) (bool? (eqb base 0))
 
 -- a naming counted
 counted_is : (base : ℕ) (w : List ℕ) (c n : ℕ) → get_or w (base + c) 0 ≡ n → n < 4294967295 → counted base w c ≡ 1 + n
@@ -128,7 +120,7 @@ module _ (bytes table codes store : List ℕ) (g : Ground bytes table codes stor
       let w₂ = set w₁ (base + 1024 + a.tail) c in
       let l₁ : length w₁ ≡ length w = length-set w (base + c) (counted base w c) in
       let l₂ : length w₂ ≡ length w₁ = length-set w₁ (base + 1024 + a.tail) c in
-      let b : bump base a c ≡ area w₂ (a.tail + 1) = bump_goal base a c ∙ simp (eq-eqb (counted base w c) (goal_of base w c) (n ∙ e ∙ sym goal), lt-leb 1024 a.tail (omega arith)) in
+      let b : bump base a c ≡ area w₂ (a.tail + 1) = simp (eq-eqb (counted base w c) (goal_of base w c) (n ∙ e ∙ sym goal), lt-leb 1024 a.tail (omega arith)) in
       rw b
       (record {
         long = omega arith;
@@ -159,7 +151,7 @@ module _ (bytes table codes store : List ℕ) (g : Ground bytes table codes stor
       let tq = passed t s c e in
       let w₁ = set w (base + c) (counted base w c) in
       let l₁ : length w₁ ≡ length w = length-set w (base + c) (counted base w c) in
-      let b : bump base a c ≡ area w₁ a.tail = bump_goal base a c ∙ simp (ne_eqb (counted base w c) (goal_of base w c) (λ z. e (sym n ∙ z ∙ goal))) in
+      let b : bump base a c ≡ area w₁ a.tail = simp (ne_eqb (counted base w c) (goal_of base w c) (λ z. e (sym n ∙ z ∙ goal))) in
       rw b
       (record {
         long = omega arith;
@@ -252,13 +244,7 @@ module _ (bytes table codes store : List ℕ) (g : Ground bytes table codes stor
 
   -- a cell that a well-formed word names is of a declared constructor
   pub con_there : (c : ℕ) → word_fine codes store (65536 + c) ≡ true → get_or store (5 * c) 0 < length cs
-  con_there c h =
-      let f = fine_cell codes store c h in
-      let k = get_or store (5 * c) 0 in
-      ⊎_elim
-      (λ (o : length cs ≤ k). let e : code_at codes store c ≡ 256 = code_none bytes table codes store g k o f.1 in let l = f.2 in absurd (omega arith))
-      (λ (o : k < length cs). o)
-      (le? (length cs) k)
+  con_there c h = omega (arith, (fine_cell codes store c h).1, many bytes table codes store g)
 
   expand_rep : (m : ℕ) (s : Walk) (a : Area) (c : ℕ) → m + 4 < 4294967295 → word_fine codes store (65536 + c) ≡ true → Holds m s a
       → Holds (m + 4) (visits t s (kids cs store c)) (expand_at codes store base a c)
@@ -268,7 +254,7 @@ module _ (bytes table codes store : List ℕ) (g : Ground bytes table codes stor
       let k = get_or store (5 * c) 0 in
       let ss = get_or cs k [] in
       let o = con_there c h in
-      rw (le-ltb (length store) (5 * c + 5) f.0, lt-leb 64 k f.1)
+      rw (le-ltb (length store) (5 * c + 5) f.0, lt-leb (length codes) k f.1)
       (subst (λ ws. Holds (m + 4) (visited s ws) (fields_at codes store base 4 (code_at codes store c % 16) (5 * c + 1) a)) (sym (inside_by bytes table codes store g c))
       (subst (λ n. Holds (m + 4) (visited s (tree_words store c 1 ss)) (fields_at codes store base 4 n (5 * c + 1) a)) (sym (trees_by bytes table codes store g c o))
       (fields_rep c 4 1 m ss s a (small bytes table codes store g k) hm r)))

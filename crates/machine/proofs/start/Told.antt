@@ -3,6 +3,7 @@ use Rattle.std.proofs.Common.{◌≡◌, ℕ, zero, suc, ◌+◌, ◌-◌, ◌*�
 use mathlib.Core.Option.{none, some}
 use lib.ListN.{get_elem?}
 use borrow.Author.Tests.{lt-leb}
+use Rattle.std.proofs.lemmas.List.{length-map, get_or-map}
 use Rattle.meaning.specs.Choice.{pick}
 use Rattle.meaning.specs.Syntax.{Constructor, File}
 use Rattle.meaning.specs.Reading.{is_atom, is_node}
@@ -12,7 +13,7 @@ use Rattle.standing.specs.Table.{Declared}
 use Rattle.theory.proofs.StartCounting.{le?}
 use Rattle.theory.proofs.StartWords.{word_atom, word_cell}
 use Rattle.machine.specs.StartWords.{code_of, Coded, code_at, numbers_fine, cell_fine, word_fine, trees_fine, inside_fine}
-use Rattle.machine.proofs.start.Fields.{trees_of, code_trees, code_numbers, code_small, code_atom, code_in_lem, code_out, numbers_are, trees_are}
+use Rattle.machine.proofs.start.Fields.{trees_of, code_trees, code_numbers, code_atom, numbers_are, trees_are}
 
 -- a file in its bytes, its table and its codes, and a store that 20 does not refuse
 pub record Ground (bytes table codes store : List ℕ) : Type 0 where
@@ -44,12 +45,12 @@ module _ (bytes table codes store : List ℕ) (g : Ground bytes table codes stor
   abbrev con : ℕ → ℕ
   con c = get_or store (5 * c) 0
 
-  -- a constructor's code, and that of a number that no constructor has
+  -- a constructor's code
   code_of_lem : (k : ℕ) → k < length cs → get_or codes k 0 ≡ code_of (get_or cs k [])
-  code_of_lem k h = g.coded k (omega (arith, g.declared.constructors)) ∙ code_in_lem cs k h
+  code_of_lem k h = ap (λ (l : List ℕ). get_or l k 0) g.coded ∙ get_or-map code_of cs k [] 0 h
 
-  pub code_none : (k : ℕ) → length cs ≤ k → k < 64 → get_or codes k 0 ≡ 256
-  code_none k h l = g.coded k l ∙ code_out cs k h
+  pub many : length codes ≡ length cs
+  many = ap length g.coded ∙ length-map cs code_of
 
   pub small : (k : ℕ) → length (get_or cs k []) ≤ 4
   small k = g.declared.small k
@@ -58,18 +59,14 @@ module _ (bytes table codes store : List ℕ) (g : Ground bytes table codes stor
   pub trees_by : (c : ℕ) → con c < length cs → code_at codes store c % 16 ≡ trees_of (get_or cs (con c) [])
   trees_by c h = ap (λ n. n % 16) (code_of_lem (con c) h) ∙ code_trees (get_or cs (con c) []) (small (con c))
 
-  atom_is : (w : ℕ) → pick (leb 64 w) false (eqb (get_or codes w 0) 0) ≡ holds (get_elem? cs w) is_atom
+  atom_is : (w : ℕ) → pick (leb (length codes) w) false (eqb (get_or codes w 0) 0) ≡ holds (get_elem? cs w) is_atom
   unfolding pick
   atom_is w =
       ⊎_elim
       (λ (h : length cs ≤ w).
-      let out : false ≡ holds (get_elem? cs w) is_atom = sym (ap (λ o. holds o is_atom) (not_there cs w h)) in
-      ⊎_elim
-      (λ (k : 64 ≤ w). rw (le-leb 64 w k) out)
-      (λ (k : w < 64). rw (lt-leb 64 w k, code_none w h k) out)
-      (le? 64 w))
+      rw (le-leb (length codes) w (omega (arith, many))) (sym (ap (λ o. holds o is_atom) (not_there cs w h))))
       (λ (h : w < length cs).
-      rw (lt-leb 64 w (omega (arith, g.declared.constructors)), code_of_lem w h)
+      rw (lt-leb (length codes) w (omega (arith, many)), code_of_lem w h)
       (code_atom (get_or cs w []) ∙ sym (ap (λ o. holds o is_atom) (there cs w h))))
       (le? (length cs) w)
 
@@ -101,17 +98,12 @@ module _ (bytes table codes store : List ℕ) (g : Ground bytes table codes stor
   stored_is c s =
       ⊎_elim
       (λ (h : length cs ≤ con c).
-      let out : false ≡ (node_test c && number_test c) = sym (ap (λ o. holds o is_node && number_test c) (not_there cs (con c) h)) in
-      ⊎_elim
-      (λ (k : 64 ≤ con c). rw (le-ltb (length store) (5 * c + 5) s, le-leb 64 (con c) k) out)
-      (λ (k : con c < 64). rw (le-ltb (length store) (5 * c + 5) s, lt-leb 64 (con c) k, code_none (con c) h k) out)
-      (le? 64 (con c)))
+      rw (le-ltb (length store) (5 * c + 5) s, le-leb (length codes) (con c) (omega (arith, many)))
+      (sym (ap (λ o. holds o is_node && number_test c) (not_there cs (con c) h))))
       (λ (h : con c < length cs).
       let f = get_or cs (con c) [] in
-      let few : code_at codes store c < 256 = omega (arith, code_of_lem (con c) h, code_small f (small (con c))) in
-      let k : con c < 64 = omega (arith, g.declared.constructors) in
       let a : eqb (code_at codes store c) 0 ≡ is_atom f = ap (λ n. eqb n 0) (code_of_lem (con c) h) ∙ code_atom f in
-      rw (le-ltb (length store) (5 * c + 5) s, lt-leb 64 (con c) k, lt-leb 256 (code_at codes store c) few)
+      rw (le-ltb (length store) (5 * c + 5) s, lt-leb (length codes) (con c) (omega (arith, many)))
       (ap₂ (λ b n. pick b false n) a (numbers_by c h)
       ∙ node_pick (is_atom f) (number_test c)
       ∙ sym (ap (λ o. holds o is_node && number_test c) (there cs (con c) h))))
@@ -133,10 +125,10 @@ module _ (bytes table codes store : List ℕ) (g : Ground bytes table codes stor
   word_is w =
       ⊎_elim
       (λ (h : 65536 ≤ w).
-      ap (λ b. pick b (cell_fine codes store (w - 65536)) (pick (leb 64 w) false (eqb (get_or codes w 0) 0))) (le-leb 65536 w h)
+      ap (λ b. pick b (cell_fine codes store (w - 65536)) (pick (leb (length codes) w) false (eqb (get_or codes w 0) 0))) (le-leb 65536 w h)
       ∙ unfold pick in (cell_is (w - 65536) ∙ sym (word_cell cs store w h)))
       (λ (h : w < 65536).
-      ap (λ b. pick b (cell_fine codes store (w - 65536)) (pick (leb 64 w) false (eqb (get_or codes w 0) 0))) (lt-leb 65536 w h)
+      ap (λ b. pick b (cell_fine codes store (w - 65536)) (pick (leb (length codes) w) false (eqb (get_or codes w 0) 0))) (lt-leb 65536 w h)
       ∙ unfold pick in (atom_is w ∙ sym (word_atom cs store w h)))
       (le? 65536 w)
 
@@ -145,8 +137,7 @@ module _ (bytes table codes store : List ℕ) (g : Ground bytes table codes stor
       → inside_fine codes store c ≡ not (any (λ w. not (word_ok cs store w)) (inside cs store c))
   unfolding inside_fine pick
   inside_is c s h =
-      let k : con c < 64 = omega (arith, g.declared.constructors) in
-      rw (le-ltb (length store) (5 * c + 5) s, lt-leb 64 (con c) k)
+      rw (le-ltb (length store) (5 * c + 5) s, lt-leb (length codes) (con c) (omega (arith, many)))
       (ap (λ n. trees_fine codes store 4 n (5 * c + 1)) (trees_by c h)
       ∙ trees_are codes store (λ w. word_ok cs store w) word_is c 4 1 (get_or cs (con c) []) (small (con c))
       ∙ ap (λ l. not (any (λ w. not (word_ok cs store w)) l)) (sym (inside_by c)))

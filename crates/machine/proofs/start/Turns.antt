@@ -1,11 +1,11 @@
 -- Laws of the loops of the start check: what a turn does to what is still to do. Assumes nothing.
-use Rattle.std.proofs.Common.{◌≡◌, ℕ, zero, suc, ◌+◌, ◌-◌, ◌/◌, ◌%◌, ◌<◌, ◌≤◌, Bool, true, false, List, get_or, set, sym, refl, ap, ◌∙◌, ⊎_elim, add-one, arith, le-leb}
+use Rattle.std.proofs.Common.{◌≡◌, ℕ, zero, suc, ◌+◌, ◌-◌, ◌/◌, ◌%◌, ◌<◌, ◌≤◌, Bool, true, false, List, get_or, sym, refl, ap, ◌∙◌, ⊎_elim, arith, le-leb}
 use mathlib.Core.Bool.{false≢true}
 use borrow.Author.Tests.{lt-leb}
 use Rattle.meaning.specs.Choice.{pick}
 use Rattle.theory.proofs.StartCounting.{le?}
 use Rattle.machine.specs.StartWords.{number_fine, numbers_fine, field_fine, trees_fine, inside_fine, all_from}
-use Rattle.machine.specs.StartArea.{Area, cleared, field_at, fields_at, expand_at, drain_at, drain_fine, arg_at, args_at}
+use Rattle.machine.specs.StartArea.{Area, field_at, fields_at, expand_at, drain_at, drain_fine, arg_at, args_at}
 
 pub all_in : (f : ℕ → Bool) (n m i : ℕ) → n ≡ suc m → f i ≡ true → all_from f n i ≡ all_from f m (i + 1)
 unfolding all_from pick
@@ -15,9 +15,12 @@ pub all_out : (f : ℕ → Bool) (n m i : ℕ) → n ≡ suc m → f i ≡ false
 unfolding all_from pick
 all_out f n m i e t = ap (λ j. all_from f j i) e ∙ rw t
 
-pub all_none : (f : ℕ → Bool) (i : ℕ) → all_from f 0 i ≡ true
+all_none : (f : ℕ → Bool) (i : ℕ) → all_from f 0 i ≡ true
 unfolding all_from
 all_none f i = refl
+
+pub all_end : (f : ℕ → Bool) (n i : ℕ) → n ≡ 0 → all_from f n i ≡ true
+all_end f n i e = ap (λ k. all_from f k i) e ∙ all_none f i
 
 -- a test of the rest, where the first have passed it
 both : (x y : Bool) → pick x y false ≡ true → (x ≡ true) × (y ≡ true)
@@ -59,14 +62,6 @@ all_rest f n m h =
     (λ (l : m < n). let e : m - n ≡ 0 = omega arith in ap (λ k. all_from f k n) e ∙ all_none f n ∙ sym (all_fewer f n m 0 (omega arith) h))
     (le? n m)
 
-pub cleared_none : (base : ℕ) (l : List ℕ) → l ≡ cleared base 0 l
-unfolding cleared
-cleared_none base l = refl
-
-pub cleared_more : (base i : ℕ) (l : List ℕ) → cleared base (i + 1) l ≡ set (cleared base i l) (base + i) 0
-unfolding cleared
-cleared_more base i l = rw (add-one i)
-
 module _ (codes store : List ℕ) (base : ℕ) where
   pub drain_turn : (n h : ℕ) (a : Area) → 0 < n → h < a.tail
       → drain_at codes store base n h a
@@ -82,10 +77,6 @@ module _ (codes store : List ℕ) (base : ℕ) where
   unfolding drain_at pick
   drain_stay zero h a q = refl
   drain_stay (suc n) h a q = simp (le-leb a.tail h q)
-
-  pub drain_none : (h : ℕ) (a : Area) → drain_at codes store base 0 h a ≡ a
-  unfolding drain_at
-  drain_none h a = refl
 
   pub fine_turn : (n h : ℕ) (a : Area) → 0 < n → h < a.tail → inside_fine codes store (get_or a.work (base + 1024 + h) 0) ≡ true
       → drain_fine codes store base n h a
@@ -108,10 +99,6 @@ module _ (codes store : List ℕ) (base : ℕ) where
   unfolding drain_fine pick
   fine_stay zero h a q = refl
   fine_stay (suc n) h a q = simp (le-leb a.tail h q)
-
-  pub fine_none : (h : ℕ) (a : Area) → drain_fine codes store base 0 h a ≡ true
-  unfolding drain_fine
-  fine_none h a = refl
 
   -- n words, by their bits
   pub field_other : (bits w : ℕ) (a : Area) → bits % 2 ≡ 0 → field_at codes store base bits w a ≡ a
@@ -151,6 +138,18 @@ pub numbers_out : (store : List ℕ) (n m bits p : ℕ) → n ≡ suc m → numb
 unfolding numbers_fine pick
 numbers_out store n m bits p e t = ap (λ k. numbers_fine store k bits p) e ∙ rw t
 
+pub fields_end : (codes store : List ℕ) (base n bits p : ℕ) (a : Area) → n ≡ 0 → fields_at codes store base n bits p a ≡ a
+unfolding fields_at
+fields_end codes store base n bits p a e = ap (λ k. fields_at codes store base k bits p a) e
+
+pub trees_end : (codes store : List ℕ) (n bits p : ℕ) → n ≡ 0 → trees_fine codes store n bits p ≡ true
+unfolding trees_fine
+trees_end codes store n bits p e = ap (λ k. trees_fine codes store k bits p) e
+
+pub numbers_end : (store : List ℕ) (n bits p : ℕ) → n ≡ 0 → numbers_fine store n bits p ≡ true
+unfolding numbers_fine
+numbers_end store n bits p e = ap (λ k. numbers_fine store k bits p) e
+
 module _ (bytes table codes store : List ℕ) (base : ℕ) where
   pub args_turn : (args : List ℕ) (mode n m i : ℕ) (a x : Area) → n ≡ suc m → x ≡ arg_at bytes table codes store base args mode i a
       → args_at bytes table codes store base args mode n i a ≡ args_at bytes table codes store base args mode m (i + 1) x
@@ -159,6 +158,6 @@ module _ (bytes table codes store : List ℕ) (base : ℕ) where
       let k : suc i ≡ i + 1 = omega arith in
       ap (λ j. args_at bytes table codes store base args mode j i a) e ∙ rw (q, ← k)
 
-  pub args_none : (args : List ℕ) (mode i : ℕ) (a : Area) → args_at bytes table codes store base args mode 0 i a ≡ a
+  pub args_end : (args : List ℕ) (mode n i : ℕ) (a : Area) → n ≡ 0 → args_at bytes table codes store base args mode n i a ≡ a
   unfolding args_at
-  args_none args mode i a = refl
+  args_end args mode n i a e = ap (λ j. args_at bytes table codes store base args mode j i a) e

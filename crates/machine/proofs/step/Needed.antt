@@ -4,7 +4,7 @@ use Rattle.machine.specs.Layout.{Top, slot_in, con_of, Low}
 use Rattle.machine.specs.Represents.{Represents, Fit}
 use Rattle.machine.specs.Skips.{Skips, Found, Known}
 use Rattle.machine.specs.Needs.{Room, NeedsAt, OpenNeeds, CallNeeds, MkNeeds}
-use Rattle.machine.specs.Steps.{Steps, StepsAt, Opened, credit_of}
+use Rattle.machine.specs.Steps.{Steps, StepsAt}
 use Rattle.machine.proofs.step.Skipping.{Taken, found_branch, stands_skips, each_skips, skips_safe, stands_ends, each_ends}
 use Rattle.machine.proofs.step.Laying.{held_owned, held_lent, AllBelow, listed_low, argued_below}
 use Rattle.machine.proofs.step.Frames.{Shape, atom, cell_of, owned_shape, lent_shape, con_same, credit_word}
@@ -21,10 +21,7 @@ use Rattle.theory.proofs.Wants.{took_credit, took_owned, took_looked}
 use Rattle.theory.proofs.Sim.{Ready, Accepted}
 use Rattle.standing.specs.Bytes.{byte_at, mark_at, arity_in, params_in}
 use Rattle.meaning.specs.declared.Mark.{Mark}
-use Rattle.meaning.specs.Marks.{mark_of, find_mark}
-use Rattle.machine.proofs.step.Marked.{mark_is}
-use Rattle.machine.proofs.step.Words.{side}
-use Rattle.meaning.specs.Choice.{pick}
+use Rattle.meaning.specs.Marks.{mark_of}
 use Rattle.standing.specs.Stands.{Listed, Stands, Each, count}
 use Rattle.standing.specs.Table.{Declared}
 
@@ -155,29 +152,12 @@ module _ {bytes decl store : List ℕ} {c : Top} (f : Fit bytes decl store c) wh
       let g : mark_of (mark_at bytes (place_of f.st.top.todo)) ≡ k = ap (λ x. mark_of (mark_at bytes x)) (sym r.here) ∙ q in
       subst (λ x. NeedsAt k bytes decl x c) (sym z) (subst (λ x. NeedsAt x bytes decl f.st.store c) g n)
 
-  pub fit_mark : c.state.frame.at + 2 ≤ length bytes
+  pub fit_mark : c.state.frame.at + 3 ≤ length bytes
   fit_mark =
       let r = f.represents in
       let s = skips_safe bytes decl (stands_skips f.file bytes decl f.declared r.stands) in
       omega (arith, s.0, r.here)
 
-  -- OP or LK, by its number in the table
-  pub fit_opens : {m : ℕ} → m ≡ find_mark (mark_at bytes c.state.frame.at) → 9 ≤ m → m < 11 → OpenNeeds bytes decl store c (credit_of m) × (credit_of m ≤ 1)
-  unfolding credit_of pick
-  fit_opens {m} e a b =
-      elim (side m 10) [
-        | inl l ↦ let z : m ≡ 9 = omega arith in rw (z, pick) (fit_needs Mark.OP (mark_is (mark_at bytes c.state.frame.at) e z), omega arith)
-        | inr l ↦ let z : m ≡ 10 = omega arith in rw (z, pick) (fit_needs Mark.LK (mark_is (mark_at bytes c.state.frame.at) e z), omega arith)
-      ]
-
 module _ {bytes decl store store' : List ℕ} {c c' : Top} where
   pub steps_of : (k : Mark) → mark_of (mark_at bytes c.state.frame.at) ≡ k → StepsAt k bytes decl store c store' c' → Steps bytes decl store c store' c'
   steps_of k e s = record { does = subst (λ n. StepsAt n bytes decl store c store' c') (sym e) s }
-
-  pub opens_of : {m : ℕ} → m ≡ find_mark (mark_at bytes c.state.frame.at) → 9 ≤ m → m < 11 → (store' ≡ store) × Opened bytes decl store (credit_of m) c c' → Steps bytes decl store c store' c'
-  unfolding credit_of pick
-  opens_of {m} e a b s =
-      elim (side m 10) [
-        | inl l ↦ let z : m ≡ 9 = omega arith in steps_of Mark.OP (mark_is (mark_at bytes c.state.frame.at) e z) (rw (z, pick) at s)
-        | inr l ↦ let z : m ≡ 10 = omega arith in steps_of Mark.LK (mark_is (mark_at bytes c.state.frame.at) e z) (rw (z, pick) at s)
-      ]

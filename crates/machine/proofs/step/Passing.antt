@@ -1,6 +1,6 @@
 -- Terms that stand one after the other are passed over a record at a time: each closes one term and opens those that follow it. Assumes nothing.
 use Rattle.std.proofs.Common.{◌≡◌, ℕ, suc, ◌+◌, ◌-◌, ◌<◌, ◌≤◌, ◌⊎◌, List, length, sym, refl, ap, ◌∙◌, subst, inl, inr, arith}
-use Rattle.machine.specs.declared.step.Then.TheVariants.{One}
+use Rattle.machine.specs.Skips.{One}
 use Rattle.machine.specs.Skips.{then_of, then_at, next_of, opens_of, SafeAt, Skips, SkipsAll, SkipsMany}
 use Rattle.meaning.specs.declared.Mark.{Mark}
 use Rattle.meaning.specs.Marks.{row_at, number_of, mark_of}

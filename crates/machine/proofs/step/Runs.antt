@@ -1,8 +1,7 @@
 -- A run of the words is the defined run. Assumes nothing.
 use Rattle.std.proofs.Common.{◌≡◌, ℕ, zero, suc, ◌+◌, ◌-◌, ◌<◌, ◌≤◌, max, Bool, true, false, ltb, List, [], ◌∷◌, length, sym, refl, ap, ◌∙◌, subst, arith, eq-eqb, ne_eqb}
 use mathlib.Core.Option.{Option, none, some}
-use Rattle.machine.specs.Layout.{Top, top, moved}
-use Rattle.machine.specs.declared.frame.State as Words
+use Rattle.machine.specs.Layout.{Numbers, Top, top}
 use Rattle.machine.specs.Represents.{After, Fit, Reached}
 use Rattle.machine.specs.Steps.{Steps, place_of as place_of_state}
 use Rattle.machine.proofs.step.Whole.{fit_sim, fit_next}
@@ -135,54 +134,8 @@ module _ {bytes decl store₀ store : List ℕ} {c₀ c : Top} {limit : ℕ} whe
       let h = q g.0 in
       (h.0, λ n. let o : (n + (limit - left)) + (left - left') ≡ n + (limit - left') = omega arith in g.1 n ∙ h.1 (n + (limit - left)) ∙ ap (λ k. run h.0.file left' h.0.st k c'.state.most) o)
 
--- the number and the value of a state do not matter to what follows
-fit_moved : {bytes decl store work : List ℕ} {s : Words.State} → Fit bytes decl store (top s work) → Fit bytes decl store (top (moved s s.frame.at) work)
-fit_moved f =
-    let r = f.represents in
-    record {
-      file = f.file;
-      declared = f.declared;
-      budget = f.budget;
-      final = f.final;
-      All = f.All;
-      before = f.before;
-      st = f.st;
-      represents =
-          record {
-            same = r.same;
-            here = r.here;
-            next = r.next;
-            stands = r.stands;
-            depth = r.depth;
-            deep = r.deep;
-            bound = r.bound;
-            few = r.few;
-            words = r.words;
-            saved = r.saved;
-            room = r.room;
-          };
-      whole = f.whole;
-      fine = f.fine;
-      once = f.once;
-      most = f.most;
-      high = f.high;
-      known = f.known;
-    }
-
-reached_moved : (bytes decl store work : List ℕ) (s : Words.State) (limit : ℕ) → Reached bytes decl store (top s work) limit limit store (top (moved s s.frame.at) work)
-unfolding fit_moved
-reached_moved bytes decl store work s limit f = (fit_moved f, λ n. let e : n ≡ n + (limit - limit) = omega arith in ap (λ k. run f.file limit f.st k s.most) e)
-
-module _ {bytes decl store work : List ℕ} {s s' : Words.State} (e : s' ≡ moved s s.frame.at) where
-  pub fit_from : Fit bytes decl store (top s work) → Fit bytes decl store (top s' work)
-  fit_from f = subst (λ x. Fit bytes decl store (top x work)) (sym e) (fit_moved f)
-
-  pub reached_from : {limit left : ℕ} {store' : List ℕ} {c' : Top} → left ≤ limit → Reached bytes decl store (top s' work) limit left store' c' → Reached bytes decl store (top s work) limit left store' c'
-  reached_from {limit} {left} {store'} {c'} l r =
-      let o : limit ≤ limit = omega arith in reached_on o l (reached_moved bytes decl store work s limit) (subst (λ x. Reached bytes decl store (top x work) limit left store' c') e r)
-
 -- the same words by another name
-pub reached_same : {bytes decl store₀ store store' work work' : List ℕ} {c₀ : Top} {s : Words.State} (limit left : ℕ) → store' ≡ store → work' ≡ work
+pub reached_same : {bytes decl store₀ store store' work work' : List ℕ} {c₀ : Top} {s : Numbers} (limit left : ℕ) → store' ≡ store → work' ≡ work
     → Reached bytes decl store₀ c₀ limit left store (top s work) → Reached bytes decl store₀ c₀ limit left store' (top s work')
 reached_same {bytes} {decl} {store₀} {store} {work' = work'} {c₀ = c₀} {s} limit left a b r =
     subst (λ x. Reached bytes decl store₀ c₀ limit left x (top s work')) (sym a) (subst (λ x. Reached bytes decl store₀ c₀ limit left store (top s x)) (sym b) r)

@@ -1,7 +1,7 @@
 -- A term that stands is passed over by its marks; the byte after it is one only. Assumes nothing.
 use Rattle.std.proofs.Common.{◌≡◌, ℕ, suc, ◌+◌, ◌-◌, ◌<◌, ◌≤◌, ◌⊎◌, List, [], length, get_or, sym, refl, ap, ◌∙◌, subst, inl, inr, arith, eq-eqb, ne_eqb}
 use mathlib.Core.Option.{none, some}
-use Rattle.machine.specs.declared.step.Then.TheVariants.{Leaf, One, Two, Many}
+use Rattle.machine.specs.Skips.{Leaf, One, Two, Many}
 use Rattle.machine.specs.Skips.{past, then_of, then_at, Safe, SafeAt, Skips, SkipsAll, Found}
 use Rattle.meaning.specs.Syntax.{Term, Branches, Constructor, File}
 use Rattle.meaning.specs.Plain.{place_of, branch}

@@ -1,18 +1,21 @@
 -- A node that is tried: its mark by the distance of its letters, and what is left as it was where the run ends. Assumes nothing.
-use Rattle.std.proofs.Common.{◌≡◌, ℕ, ◌+◌, ◌-◌, ◌*◌, ◌%◌, ◌<◌, Bool, true, false, eqb, ltb, List, sym, refl, ap, ◌∙◌, subst, arith}
-use mathlib.Core.Option.{Option, none, some}
+use Rattle.std.proofs.Common.{◌≡◌, ℕ, ◌+◌, ◌-◌, ◌*◌, ◌%◌, ◌<◌, Bool, true, false, eqb, List, sym, refl, ap, ◌∙◌, subst, arith, Option, Some, None}
+use mathlib.Core.Option.{none, some}
+use mathlib.Core.Option as maybe
 use Rattle.meaning.specs.Choice.{pick}
-use Rattle.meaning.specs.declared.Mark.{Mark}
 use Rattle.meaning.specs.Marks.{mark_of, number_of, find_mark}
 use Rattle.meaning.specs.Plain.{arithmetic, place_of}
 use Rattle.meaning.specs.Syntax.{Term, File}
 use Rattle.standing.specs.Bytes.{byte_at, mark_at}
 use Rattle.standing.specs.Stands.{Stands}
+use Rattle.meaning.specs.declared.RunEnd.{RunEnd}
+use Rattle.meaning.specs.Answers.{number, as_end, value_of}
 use Rattle.machine.specs.declared.frame.State.{State}
-use Rattle.machine.specs.Layout.{Top, top, ended, bound, slot_in, ar_of, gv_of, cl_of, opened_of}
+use Rattle.machine.specs.Layout.{Top, top, ended, bound, slot_in, on, at_work, goes, ar_of, gv_of, cl_of}
+use Rattle.meaning.specs.declared.Mark.{Mark}
 use Rattle.machine.specs.Represents.{Fit}
-use Rattle.machine.specs.Steps.{StepsAt, Tried, Node, by_distance}
 use Rattle.machine.proofs.step.Needed.{steps_of}
+use Rattle.machine.specs.Steps.{Steps, StepsAt, Comes, Stepped, Node, by_distance, ending_at, ending, place_of as place_at}
 
 -- the ten marks, by the distance of their letters
 pub by_letters : (a b : ℕ) → a < 256 → b < 256 → Node (a * 256 + b) → by_distance ((b + 256 - a) % 32) ≡ find_mark (a * 256 + b)
@@ -63,31 +66,78 @@ ar_still bytes c =
     go (arithmetic (byte_at bytes (c.state.frame.at + 2)) (slot_in bytes c.work (c.state.frame.depth * 32) (c.state.frame.at + 3))
     (slot_in bytes c.work (c.state.frame.depth * 32) (c.state.frame.at + 4)))
   where
-    after : Option ℕ → Top
+    after : maybe.Option ℕ → Top
     after m = elim m as (λ _. Top) [ none ↦ top (ended c.state 34 0) c.work | some v ↦ bound c v (c.state.frame.at + 5) ]
 
-    go : (m : Option ℕ) → ((after m).state.number ≡ 99 → ⊥) → (after m).work ≡ c.work
+    go : (m : maybe.Option ℕ) → ((after m).state.number ≡ 99 → ⊥) → (after m).work ≡ c.work
     go none z = refl
     go (some v) z = absurd (z refl)
 
--- a branch that was found goes on
-pub opened_goes : (decl store : List ℕ) (c : Top) (w con b credit : ℕ) → (opened_of decl store c w con b credit).state.number ≡ 99
-unfolding opened_of pick
-opened_goes decl store c w con b credit = go (ltb w 65536) _ _ refl refl
-  where
-    go : (x : Bool) (e g : Top) → e.state.number ≡ 99 → g.state.number ≡ 99 → (pick x e g).state.number ≡ 99
-    go true e g a b = a
-    go false e g a b = b
+ends : (e : RunEnd) → number (as_end e) ≡ 99 → ⊥
+ends (RunEnd.Done v) z = omega arith
+ends RunEnd.NoBranch z = omega arith
+ends RunEnd.BudgetSpent z = omega arith
+ends RunEnd.NoFrame z = omega arith
+ends RunEnd.OutOfRange z = omega arith
 
--- a state that has ended does not go on
-pub not_going : (s : State) {s' : State} → s' ≡ ended s 31 0 → s'.number ≡ 99 → ⊥
-not_going s e n = let q : ◌≡◌ {A = ℕ} 31 99 = sym (ap (λ x. x.number) e) ∙ n in omega (arith, q)
+-- a node that ends the run by another end than these
+pub no_end : (k : Mark) (bytes : List ℕ) (c : Top) → (k ≡ Mark.GV → ⊥) → (k ≡ Mark.CL → ⊥) → (k ≡ Mark.AR → ⊥) → RunEnd.NoBranch ≡ ending_at k bytes c
+no_end Mark.CN bytes c g l a = refl
+no_end Mark.FN bytes c g l a = refl
+no_end Mark.BD bytes c g l a = refl
+no_end Mark.ND bytes c g l a = refl
+no_end Mark.GV bytes c g l a = absurd (g refl)
+no_end Mark.AT bytes c g l a = refl
+no_end Mark.MK bytes c g l a = refl
+no_end Mark.CL bytes c g l a = absurd (l refl)
+no_end Mark.TL bytes c g l a = refl
+no_end Mark.OP bytes c g l a = refl
+no_end Mark.LK bytes c g l a = refl
+no_end Mark.BR bytes c g l a = refl
+no_end Mark.NU bytes c g l a = refl
+no_end Mark.AR bytes c g l a = absurd (a refl)
+no_end Mark.IF bytes c g l a = refl
+no_end Mark.Other bytes c g l a = refl
 
-module _ {bytes decl store store' : List ℕ} {c c' : Top} where
-  pub tried_of : (k : Mark) → mark_of (mark_at bytes c.state.frame.at) ≡ k → StepsAt k bytes decl store c store' c' → ((c'.state.number ≡ 99 → ⊥) → (store' ≡ store) × (c'.work ≡ c.work))
-      → Tried bytes decl store c store' c'
-  tried_of k e s z = record { does = λ n. steps_of k e s; stays = z }
+-- the place of an end, but where the run is done
+pub place_undone : (s : State) (e : RunEnd) → ((v : ℕ) → e ≡ RunEnd.Done v → ⊥) → s.frame.at ≡ place_at (ended (on s) (number (as_end e)) (value_of e))
+unfolding place_at pick
+place_undone s (RunEnd.Done v) z = absurd (z v refl)
+place_undone s RunEnd.NoBranch z = refl
+place_undone s RunEnd.BudgetSpent z = refl
+place_undone s RunEnd.NoFrame z = refl
+place_undone s RunEnd.OutOfRange z = refl
 
-  -- a node that goes on in any case
-  pub tried_going : (k : Mark) → mark_of (mark_at bytes c.state.frame.at) ≡ k → StepsAt k bytes decl store c store' c' → c'.state.number ≡ 99 → Tried bytes decl store c store' c'
-  tried_going k e s n = record { does = λ _. steps_of k e s; stays = λ z. absurd (z n) }
+-- an end does not go on
+pub not_going : (s : State) (e : RunEnd) (work : List ℕ) → (goes e s None work).state.number ≡ 99 → ⊥
+not_going s e work z = ends e z
+
+module _ (out : Bool) (bytes decl store : List ℕ) (s : State) (work : List ℕ) (k : Mark) (is : mark_of (mark_at bytes s.frame.at) ≡ k) where
+  ended_as : (work' : List ℕ) → ending_at k bytes (at_work s work') ≡ ending bytes (at_work s work')
+  unfolding ending
+  ended_as work' = ap (λ m. ending_at m bytes (at_work s work')) (sym is)
+
+  -- a node that needs no end of a term: what it comes to, with the words as they were where it ends
+  pub stepped : (r : Option State) (work' : List ℕ) {x : Top} → goes (ending_at k bytes (at_work s work')) s r work' ≡ x → StepsAt k bytes decl store (at_work s work) store x
+      → ((x.state.number ≡ 99 → ⊥) → x.work ≡ work) → Stepped out bytes decl store s work r store work'
+  stepped (Some s') work' e p z = steps_of k is (subst (λ y. StepsAt k bytes decl store (at_work s work) store y) (sym e) p)
+  stepped None work' {x} e p z = (
+    λ _. steps_of k is (subst (λ y. StepsAt k bytes decl store (at_work s work) store y) (sym e ∙ ap (λ f. goes f s None work') (ended_as work')) p),
+    λ _. (refl, ap (λ y. y.work) e ∙ z (λ n. not_going s _ work' (ap (λ y. y.state.number) e ∙ n))),
+  )
+
+  -- one that needs the end of a term
+  pub stepped_on : (P : Top → Type 0) (r : Option State) (work' : List ℕ) → ((x : Top) → P x → StepsAt k bytes decl store (at_work s work) store x)
+      → Comes out (ending_at k bytes (at_work s work')) P (work' ≡ work) s r work' → Stepped out bytes decl store s work r store work'
+  stepped_on P (Some s') work' f a = steps_of k is (f _ a)
+  stepped_on P None work' f a = (λ z. steps_of k is (subst (λ y. StepsAt k bytes decl store (at_work s work) store y) (ap (λ g. goes g s None work') (ended_as work')) (f _ (a.0 z))), λ z. (refl, a.1 z))
+
+module _ (bytes decl store : List ℕ) (s : State) (work store' work' : List ℕ) where
+  pub goes_on : (out : Bool) {r : Option State} (s' : State) → r ≡ Some s' → Stepped out bytes decl store s work r store' work' → Steps bytes decl store (at_work s work) store' (at_work s' work')
+  goes_on out s' e a = subst (λ x. Stepped out bytes decl store s work x store' work') e a
+
+  pub stays : {r : Option State} → r ≡ None → Stepped false bytes decl store s work r store' work' → (store' ≡ store) × (work' ≡ work)
+  stays e a = (subst (λ x. Stepped false bytes decl store s work x store' work') e a).1 refl
+
+  pub ends_so : {r : Option State} → r ≡ None → Stepped true bytes decl store s work r store' work' → Steps bytes decl store (at_work s work) store' (goes (ending bytes (at_work s work')) s None work')
+  ends_so e a = (subst (λ x. Stepped true bytes decl store s work x store' work') e a).0 refl

@@ -1,56 +1,42 @@
 -- `calls::settle` meets its contract. Assumes nothing.
-use Prim.Native.Nat.{ℕ, ◌≤◌}
-use mathlib.Core.Path.{◌≡◌, refl, sym, ap, ap₂, ◌∙◌}
-use mathlib.Core.Bool.{Bool}
-use mathlib.Core.List.{List}
-use native.Mathlib.Omega.{arith}
-use native.Mathlib.Numerals.{add-one}
-use lib.ListN.{get_or}
-use Rattle.meaning.specs.declared.Verdict.TheVariants as verdict
-use Rattle.meaning.specs.Calls.{Square, relax, rounds, same}
+use Rattle.std.proofs.Common.{ℕ, suc, ◌≡◌, refl, sym, ap, ◌∙◌, arith, add-one, Bool, List, eqb}
+use Rattle.std.proofs.lemmas.Bool.{true≢false}
+use Rattle.std.proofs.lemmas.Bool.Decides.{Decides-eqb}
+use Rattle.std.proofs.lemmas.Slice.Eq.{slice_eq-Decides}
+use Rattle.std.specs.Bool.{Decides}
+use Rattle.std.specs.Cmp.Lexicographic.{pointwise}
+use Rattle.meaning.specs.Calls.{Square, relax, rounds}
 use Rattle.checker.specs.Bits.{bits_of}
 use Rattle.checker.proofs.calls.Rounds.{rounds_low, flat_at, stacked_at}
 use Rattle.checker.proofs.calls.settle.Goals as goal
 
--- what the comparison says of the rounds
-told_by : (sq : Square) (seen : List Bool) (k : ℕ) {table next : List ℕ} {b : Bool} → table ≡ rounds k sq seen → next ≡ relax sq seen table → b ≡ same 32 next table
-    → same 32 (relax sq seen (rounds k sq seen)) (rounds k sq seen) ≡ b
-told_by sq seen k e n t = sym (t ∙ ap₂ (same 32) (n ∙ ap (relax sq seen) e) e)
-
-low : (sq : Square) (seen : List Bool) (k : ℕ) {table : List ℕ} (f : ℕ) → table ≡ rounds k sq seen → get_or table f 0 ≤ k
-low sq seen k f e = rw e (rounds_low sq seen k f)
-
-pub loop-k-init : goal.loop-k-init
+pub loop-init : goal.loop-init
 unfolding rounds
-loop-k-init c = (omega arith, refl, λ j e. absurd (omega arith))
+loop-init c = refl
 
 pub relax-next-requires : goal.relax-next-requires
-relax-next-requires c =
-    let a = c.args in
-    let l = c.loop-k in
-    λ f. omega (arith, low a.square (bits_of 32 a.seen) l.k f l.invariant.1)
+relax-next-requires c = rw c.loop.invariant (λ f l. omega (arith, rounds_low c.args.square (bits_of 32 c.args.seen) c.loop.counter f l))
 
-pub returns-then-same : goal.returns-then-same
-returns-then-same c =
-    let a = c.args in
-    let l = c.loop-k in
-    let s = bits_of 32 a.seen in
-    let e = told_by a.square s l.k l.invariant.1 c.relax-next.ensures c.same.ensures ∙ c.if-same.true in
-    rw (flat_at a.square s l.k e a.reached c.loop-k-test.true) (ap (λ d. verdict.Flat d a.reached) (rw l.invariant.1 (add-one _)))
+-- a round more, as the code makes it, is the table after one round more
+module _ (sq : Square) (seen : List Bool) (k : ℕ) {table next : List ℕ} {b : Bool} (t : table ≡ rounds k sq seen) (n : next ≡ relax sq seen table) (e : b ≡ pointwise eqb next table) where
+  compared : Decides b (rounds (suc k) sq seen ≡ rounds k sq seen)
+  unfolding rounds
+  compared = let d = slice_eq-Decides Decides-eqb next table b e in rw (n, t) at d
 
-pub loop-k-preserved : goal.loop-k-preserved
+pub returns-then-eq : goal.returns-then-eq
+returns-then-eq c =
+    let d = compared c.args.square (bits_of 32 c.args.seen) c.loop.counter c.loop.invariant c.relax-next.ensures c.eq.ensures in
+    rw (flat_at c.args.square (bits_of 32 c.args.seen) c.loop.counter c.args.reached (d.0 c.if-eq.true) c.loop-test.true, add-one, c.from.ensures, c.loop.invariant)
+
+pub returns-else-eq : goal.returns-else-eq
+returns-else-eq c =
+    let d = compared c.args.square (bits_of 32 c.args.seen) c.loop.counter c.loop.invariant c.relax-next.ensures c.eq.ensures in
+    let q : c.args.reached ≡ c.loop.counter = omega arith in
+    rw q (rw (stacked_at c.args.square (bits_of 32 c.args.seen) c.loop.counter (λ same. true≢false (sym (d.1 same) ∙ c.if-eq.false))))
+
+pub loop-preserved : goal.loop-preserved
 unfolding rounds
-loop-k-preserved c =
-    let a = c.args in
-    let l = c.loop-k in
-    let s = bits_of 32 a.seen in
-    let e = told_by a.square s l.k l.invariant.1 c.relax-next.ensures c.same.ensures ∙ c.if-same.false in (
-      omega arith,
-      c.relax-next.ensures ∙ ap (relax a.square s) l.invariant.1 ∙ ap (λ n. rounds n a.square s) (sym (add-one l.k)),
-      λ j d. let q : j ≡ l.k = omega arith in rw q e,
-    )
+loop-preserved c = rw add-one (c.relax-next.ensures ∙ ap (relax c.args.square (bits_of 32 c.args.seen)) c.loop.invariant)
 
 pub returns : goal.returns
-returns c =
-    let a = c.args in
-    rw (stacked_at a.square (bits_of 32 a.seen) a.reached (c.loop-k.invariant.2 a.reached (omega arith)))
+returns c = absurd (omega arith)

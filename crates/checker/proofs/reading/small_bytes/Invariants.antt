@@ -1,12 +1,9 @@
--- `reading::small_bytes` meets its contract. Assumes nothing.
-use mathlib.Core.Path.{◌≡◌}
+-- What is left of the bytes comes to what all of them come to. Assumes nothing.
+use Prim.Native.Nat.{◌-◌, ◌≤◌}
 use lib.ListN.{length}
+use mathlib.Core.Path.{◌≡◌}
 use Rattle.checker.specs.ReadingBytes.{small_bytes}
-use Prim.Native.Nat.{◌≤◌, ◌-◌}
 use Rattle.checker.proofs.reading.small_bytes.Given as goal
 
-abbrev pub invariant-loop-j : goal.invariant-loop-j
-invariant-loop-j l = (l.j ≤ l.k) × (l.p ≤ length l.file) × (small_bytes l.k l.file l.at l.top ≡ small_bytes (l.k - l.j) l.file l.p l.top)
-
-abbrev pub decreases-loop-j : goal.decreases-loop-j
-decreases-loop-j l = l.k - l.j
+abbrev pub invariant-loop-place : goal.invariant-loop-place
+invariant-loop-place l = (l.place ≤ length l.file) × (small_bytes l.fn.count l.file l.fn.at l.greatest ≡ small_bytes (l.end - l.place) l.file l.place l.greatest)

@@ -1,12 +1,14 @@
--- `answer_line` meets its contract: the pieces laid one behind the other are the line. Assumes nothing.
-use native.Mathlib.Omega.{arith}
-use Rattle.lines.proofs.Writing.{wrote_more, wrote_line}
-use Rattle.lines.proofs.Texts.{answer_text}
+-- The pieces one behind the other are the line of the definitions.
+use Rattle.std.proofs.Common.{◌∙◌, append_assoc}
+use Rattle.meaning.specs.Lines.{answer_line}
+use Rattle.lines.proofs.Digits.{zero_digits}
 use Rattle.lines.proofs.text.answer_line.Goals as goal
+use Rattle.lines.proofs.text.answer_line.Goals.{in-Ok, in-Err}
 
 pub returns : goal.returns
+unfolding answer_line
 returns c =
-    wrote_line _
-    (wrote_more (wrote_more (wrote_more (wrote_more (rw c.number.ensures at c.put_field-at.ensures.wrote) c.put_field-at-2.ensures.wrote) c.put_field-at-3.ensures.wrote) c.put_field-at-4.ensures.wrote) c.put_field.ensures.wrote)
-    (answer_text _)
-    (omega (arith, c.requires, c.put_field-at.ensures.upper_bound, c.put_field-at-2.ensures.upper_bound, c.put_field-at-3.ensures.upper_bound, c.put_field-at-4.ensures.upper_bound, c.put_field.ensures.upper_bound))
+    c.push_str.ensures.bytes ∙ elim c.match-answer.branch [
+      | in-Ok w ↦ rw (w.line-is, w.push_field-in-Ok-4.ensures.bytes, w.push_field-in-Ok-3.ensures.bytes, w.push_field-in-Ok-2.ensures.bytes, w.push_field-in-Ok.ensures.bytes, w.push_field.ensures.bytes, c.new-line.ensures, w.number.ensures, w.value.ensures, w.in-Ok.is) (simp append_assoc)
+      | in-Err w ↦ rw (w.line-is, w.push_field-in-Err-3.ensures.bytes, w.push_field-in-Err-2.ensures.bytes, w.push_field-in-Err.ensures.bytes, c.new-line.ensures, w.number-in-Err.ensures, w.in-Err.is) (simp (append_assoc, zero_digits))
+    ]

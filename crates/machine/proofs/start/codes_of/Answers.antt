@@ -1,14 +1,14 @@
 -- The proof of `codes_of`. Assumes nothing.
-use Rattle.std.proofs.Common.{ℕ, arith}
-use lib.ListN.{length-replicate}
-use Rattle.machine.proofs.start.Fields.{coded, codes_begin}
+use Rattle.std.proofs.Common.{◌≡◌, length, take, ap, sym, ◌∙◌, arith}
+use Rattle.std.proofs.Math.Seq.{take-length}
+use Rattle.machine.proofs.start.Fields.{coded}
 use Rattle.machine.proofs.start.codes_of.Goals as goal
 
-pub loop-i-init : goal.loop-i-init
-loop-i-init c = (omega arith, length-replicate {A = ℕ} 64 256, λ k h. absurd (omega arith), λ k a b. codes_begin 64 256 k b)
-
-pub returns-then-kind-eq255 : goal.returns-then-kind-eq255
-returns-then-kind-eq255 c = coded c.args.file.now c.args.decl.now c.loop-i.codes c.loop-i.i c.loop-i.invariant.0 c.loop-i.invariant.2 c.loop-i.invariant.3 (λ h. c.if-kind-eq255.true)
+pub returns-then-word-eq-NONE : goal.returns-then-word-eq-NONE
+returns-then-word-eq-NONE c = coded c.args.rules.file.now c.args.rules.table.now.words c.loop-i.codes c.loop-i.i (omega arith) (omega arith) c.loop-i.invariant.1 (λ h. c.if-word-eq-NONE.true)
 
 pub returns : goal.returns
-returns c = coded c.args.file.now c.args.decl.now c.loop-i.codes c.loop-i.i c.loop-i.invariant.0 c.loop-i.invariant.2 c.loop-i.invariant.3 (λ h. absurd (omega (arith, h, c.loop-i-test.false)))
+returns c tree d =
+    let l = c.loop-i.codes in
+    let e : length l ≡ c.loop-i.i = omega arith in
+    sym (take-length l) ∙ ap (λ n. take n l) e ∙ coded c.args.rules.file.now c.args.rules.table.now.words l c.loop-i.i (omega arith) (omega arith) c.loop-i.invariant.1 (λ h. absurd (omega arith)) tree d

@@ -1,10 +1,7 @@
 -- The proof of `codes_of`. Assumes nothing.
-use Rattle.std.proofs.Common.{◌≡◌, ℕ, ◌-◌, ◌%◌, ◌<◌, ◌≤◌, length, get_or}
+use Rattle.std.proofs.Common.{◌≡◌, ℕ, ◌%◌, ◌<◌, length, get_or}
 use Rattle.machine.specs.StartWords.{code_from}
 use Rattle.machine.proofs.start.codes_of.Given as goal
 
 abbrev pub invariant-loop-i : goal.invariant-loop-i
-invariant-loop-i l = (l.i ≤ 64) × (length l.codes ≡ 64) × ((k : ℕ) → k < l.i → (get_or l.codes k 0 ≡ code_from l.file (get_or l.decl k 0) 4 0) × (get_or l.decl k 0 % 256 ≡ 255 → ⊥)) × ((k : ℕ) → l.i ≤ k → k < 64 → get_or l.codes k 0 ≡ 256)
-
-abbrev pub decreases-loop-i : goal.decreases-loop-i
-decreases-loop-i l = 64 - l.i
+invariant-loop-i l = (length l.codes ≡ 64) × ((k : ℕ) → k < l.i → (get_or l.codes k 0 ≡ code_from l.rules.file.now (get_or l.rules.table.now.words k 0) 4 0) × (get_or l.rules.table.now.words k 0 % 256 ≡ 255 → ⊥))

@@ -18,18 +18,18 @@ handed file work depth place n count =
 
 pub returns-then-depth : goal.returns-then-depth
 unfolding cl_of pick
-returns-then-depth c = simp (le-leb _ _ c.if-depth.true, c.finish.ensures)
+returns-then-depth c = simp (le-leb _ _ c.if-depth.true)
 
 pub returns : goal.returns
 unfolding cl_of pick
 returns c =
     let s = c.args.s in
-    let n = c.params-n.result in
+    let n = c.parameters-n.result in
     let w₀ : List ℕ = saved c.args.work.now s.frame.depth s.frame.at n s.frame.bound in
     -- both ways hand over the same
-    let given : c.if-n-eq1.work ≡ handed c.args.file.now c.args.work.now s.frame.depth s.frame.at n s.frame.bound =
+    let given : c.if-n-eq1.work ≡ handed c.args.rules.file.now c.args.work.now s.frame.depth s.frame.at n s.frame.bound =
     elim c.if-n-eq1.branch [
-      | then-n-eq1 w ↦ w.work-is ∙ ap (set w₀ (s.frame.depth * 32 + 32)) w.slot-v.ensures ∙ laid_one w₀ c.args.file.now w₀ (s.frame.depth * 32 + 32) (s.frame.depth * 32) (s.frame.at + 3) n w.if-n-eq1.true
+      | then-n-eq1 w ↦ w.work-is ∙ ap (set w₀ (s.frame.depth * 32 + 32)) w.slot-v.ensures ∙ laid_one w₀ c.args.rules.file.now w₀ (s.frame.depth * 32 + 32) (s.frame.depth * 32) (s.frame.at + 3) n w.if-n-eq1.true
       | else-n-eq1 w ↦ w.work-is ∙ w.hand_over.ensures
     ] in
-    rw (lt-leb _ _ c.if-depth.false, c.body.ensures, c.larger.ensures, given, c.params-n.ensures.0, c.byte-g.ensures.0, gathered_above c.args.file.now c.args.work.now (c.args.s.frame.depth * 32) (c.args.s.frame.at + 3) (params_in c.args.decl.now (byte_at c.args.file.now (c.args.s.frame.at + 2))) (1024 + c.args.s.frame.depth * 2) (c.args.s.frame.at + 3 + (params_in c.args.decl.now (byte_at c.args.file.now (c.args.s.frame.at + 2)))) (1024 + c.args.s.frame.depth * 2 + 1) c.args.s.frame.bound (omega arith) (omega arith) c.requires.7)
+    rw (lt-leb _ _ c.if-depth.false, c.body.ensures.0, c.max.ensures, given, c.parameters-n.ensures.0, c.byte-g.ensures.0, gathered_above c.args.rules.file.now c.args.work.now (c.args.s.frame.depth * 32) (c.args.s.frame.at + 3) (params_in c.args.rules.table.now.words (byte_at c.args.rules.file.now (c.args.s.frame.at + 2))) (1024 + c.args.s.frame.depth * 2) (c.args.s.frame.at + 3 + (params_in c.args.rules.table.now.words (byte_at c.args.rules.file.now (c.args.s.frame.at + 2)))) (1024 + c.args.s.frame.depth * 2 + 1) c.args.s.frame.bound (omega arith) (omega arith) c.requires.7)

@@ -1,66 +1,45 @@
 -- The proof of `follows`. Assumes nothing.
-use Rattle.std.proofs.Common.{sym, subst, arith}
-use Rattle.meaning.specs.Marks.{mark_of, number_of, find_mark}
-use Rattle.standing.specs.Bytes.{mark_at}
-use Rattle.machine.specs.Skips.{past, then_of, SafeAt}
-use Rattle.machine.proofs.step.Marked.{mark_is, leaf_follows}
+use Rattle.std.proofs.Common.{◌+◌, sym, refl, ap, subst, ◌∙◌, arith}
+use Rattle.standing.specs.Bytes.{arity_in, params_in}
+use Rattle.machine.specs.Skips.{next_of, opens_of, SafeAt}
+use Rattle.machine.proofs.step.Marked.{followed, past_row, leaf_follows}
 use Rattle.machine.proofs.step.follows.Goals as goal
 
-pub arity-requires : goal.arity-requires
-arity-requires c = rw c.byte.ensures.0 (subst (λ x. SafeAt x c.args.file.now c.args.at) (mark_is (mark_at c.args.file.now c.args.at) c.mark-m.ensures c.in-6.is) c.requires.1)
+pub byte-requires-in-OP : goal.byte-requires-in-OP
+byte-requires-in-OP c = let s = (subst (λ x. SafeAt x c.args.rules.file.now c.args.at) (sym c.mark-m.ensures ∙ c.in-OP.is) c.requires.1) in omega (arith, s)
 
-pub params-requires : goal.params-requires
-params-requires c = rw c.byte-in-7.ensures.0 (subst (λ x. SafeAt x c.args.file.now c.args.at) (mark_is (mark_at c.args.file.now c.args.at) c.mark-m.ensures c.in-7.is) c.requires.1)
+pub byte-requires-in-LK : goal.byte-requires-in-LK
+byte-requires-in-LK c = let s = (subst (λ x. SafeAt x c.args.rules.file.now c.args.at) (sym c.mark-m.ensures ∙ c.in-LK.is) c.requires.1) in omega (arith, s)
 
-pub params-requires-in-8 : goal.params-requires-in-8
-params-requires-in-8 c = rw c.byte-in-8.ensures.0 (subst (λ x. SafeAt x c.args.file.now c.args.at) (mark_is (mark_at c.args.file.now c.args.at) c.mark-m.ensures c.in-8.is) c.requires.1)
+pub returns-in-AT : goal.returns-in-AT
+returns-in-AT c = let t = followed c.args.rules.file.now c.args.rules.table.now.words c.args.at c.mark-m.ensures c.in-AT.is in let p = past_row c.args.at c.row.ensures c.from.ensures c.in-AT.is in (p ∙ ap next_of (sym t), ap opens_of (sym t))
 
-pub byte-requires-in-9 : goal.byte-requires-in-9
-byte-requires-in-9 c = let s = subst (λ x. SafeAt x c.args.file.now c.args.at) (mark_is (mark_at c.args.file.now c.args.at) c.mark-m.ensures c.in-9.is) c.requires.1 in omega (arith, s)
+pub returns-in-MK : goal.returns-in-MK
+returns-in-MK c = let t = followed c.args.rules.file.now c.args.rules.table.now.words c.args.at c.mark-m.ensures c.in-MK.is in let p = past_row c.args.at c.row.ensures c.from.ensures c.in-MK.is in ((λ i. p i + (c.arity.ensures.0 ∙ ap (arity_in c.args.rules.table.now.words) c.byte.ensures.0) i) ∙ ap next_of (sym t), ap opens_of (sym t))
 
-pub byte-requires-in-10 : goal.byte-requires-in-10
-byte-requires-in-10 c = let s = subst (λ x. SafeAt x c.args.file.now c.args.at) (mark_is (mark_at c.args.file.now c.args.at) c.mark-m.ensures c.in-10.is) c.requires.1 in omega (arith, s)
+pub returns-in-CL : goal.returns-in-CL
+returns-in-CL c = let t = followed c.args.rules.file.now c.args.rules.table.now.words c.args.at c.mark-m.ensures c.in-CL.is in let p = past_row c.args.at c.row.ensures c.from.ensures c.in-CL.is in ((λ i. p i + (c.parameters.ensures.0 ∙ ap (params_in c.args.rules.table.now.words) c.byte-in-CL.ensures.0) i) ∙ ap next_of (sym t), ap opens_of (sym t))
 
-pub returns-in-5 : goal.returns-in-5
-unfolding then_of past number_of
-returns-in-5 c = rw ((mark_is (mark_at c.args.file.now c.args.at) c.mark-m.ensures c.in-5.is), c.mark_row-row.ensures, c.in-5.is)
+pub returns-in-TL : goal.returns-in-TL
+returns-in-TL c = let t = followed c.args.rules.file.now c.args.rules.table.now.words c.args.at c.mark-m.ensures c.in-TL.is in let p = past_row c.args.at c.row.ensures c.from.ensures c.in-TL.is in ((λ i. p i + (c.parameters-in-TL.ensures.0 ∙ ap (params_in c.args.rules.table.now.words) c.byte-in-TL.ensures.0) i) ∙ ap next_of (sym t), ap opens_of (sym t))
 
-pub returns-in-6 : goal.returns-in-6
-unfolding then_of past number_of
-returns-in-6 c = rw ((mark_is (mark_at c.args.file.now c.args.at) c.mark-m.ensures c.in-6.is), c.mark_row-row.ensures, c.in-6.is, c.arity.ensures.0, c.byte.ensures.0)
+pub returns-in-OP : goal.returns-in-OP
+returns-in-OP c = let t = followed c.args.rules.file.now c.args.rules.table.now.words c.args.at c.mark-m.ensures c.in-OP.is in let p = past_row c.args.at c.row.ensures c.from.ensures c.in-OP.is in (p ∙ ap next_of (sym t), c.byte-in-OP.ensures.0 ∙ ap opens_of (sym t))
 
-pub returns-in-7 : goal.returns-in-7
-unfolding then_of past number_of
-returns-in-7 c = rw ((mark_is (mark_at c.args.file.now c.args.at) c.mark-m.ensures c.in-7.is), c.mark_row-row.ensures, c.in-7.is, c.params.ensures.0, c.byte-in-7.ensures.0)
+pub returns-in-LK : goal.returns-in-LK
+returns-in-LK c = let t = followed c.args.rules.file.now c.args.rules.table.now.words c.args.at c.mark-m.ensures c.in-LK.is in let p = past_row c.args.at c.row.ensures c.from.ensures c.in-LK.is in (p ∙ ap next_of (sym t), c.byte-in-LK.ensures.0 ∙ ap opens_of (sym t))
 
-pub returns-in-8 : goal.returns-in-8
-unfolding then_of past number_of
-returns-in-8 c = rw ((mark_is (mark_at c.args.file.now c.args.at) c.mark-m.ensures c.in-8.is), c.mark_row-row.ensures, c.in-8.is, c.params-in-8.ensures.0, c.byte-in-8.ensures.0)
+pub returns-in-BR : goal.returns-in-BR
+returns-in-BR c = let t = followed c.args.rules.file.now c.args.rules.table.now.words c.args.at c.mark-m.ensures c.in-BR.is in let p = past_row c.args.at c.row.ensures c.from.ensures c.in-BR.is in (p ∙ ap next_of (sym t), ap opens_of (sym t))
 
-pub returns-in-9 : goal.returns-in-9
-unfolding then_of past number_of
-returns-in-9 c = rw ((mark_is (mark_at c.args.file.now c.args.at) c.mark-m.ensures c.in-9.is), c.mark_row-row.ensures, c.in-9.is, c.byte-in-9.ensures.0)
+pub returns-in-NU : goal.returns-in-NU
+returns-in-NU c = let t = followed c.args.rules.file.now c.args.rules.table.now.words c.args.at c.mark-m.ensures c.in-NU.is in let p = past_row c.args.at c.row.ensures c.from.ensures c.in-NU.is in (p ∙ ap next_of (sym t), ap opens_of (sym t))
 
-pub returns-in-10 : goal.returns-in-10
-unfolding then_of past number_of
-returns-in-10 c = rw ((mark_is (mark_at c.args.file.now c.args.at) c.mark-m.ensures c.in-10.is), c.mark_row-row.ensures, c.in-10.is, c.byte-in-10.ensures.0)
+pub returns-in-AR : goal.returns-in-AR
+returns-in-AR c = let t = followed c.args.rules.file.now c.args.rules.table.now.words c.args.at c.mark-m.ensures c.in-AR.is in let p = past_row c.args.at c.row.ensures c.from.ensures c.in-AR.is in (p ∙ ap next_of (sym t), ap opens_of (sym t))
 
-pub returns-in-11 : goal.returns-in-11
-unfolding then_of past number_of
-returns-in-11 c = rw ((mark_is (mark_at c.args.file.now c.args.at) c.mark-m.ensures c.in-11.is), c.mark_row-row.ensures, c.in-11.is)
-
-pub returns-in-12 : goal.returns-in-12
-unfolding then_of past number_of
-returns-in-12 c = rw ((mark_is (mark_at c.args.file.now c.args.at) c.mark-m.ensures c.in-12.is), c.mark_row-row.ensures, c.in-12.is)
-
-pub returns-in-13 : goal.returns-in-13
-unfolding then_of past number_of
-returns-in-13 c = rw ((mark_is (mark_at c.args.file.now c.args.at) c.mark-m.ensures c.in-13.is), c.mark_row-row.ensures, c.in-13.is)
-
-pub returns-in-14 : goal.returns-in-14
-unfolding then_of past number_of
-returns-in-14 c = rw ((mark_is (mark_at c.args.file.now c.args.at) c.mark-m.ensures c.in-14.is), c.mark_row-row.ensures, c.in-14.is)
+pub returns-in-IF : goal.returns-in-IF
+returns-in-IF c = let t = followed c.args.rules.file.now c.args.rules.table.now.words c.args.at c.mark-m.ensures c.in-IF.is in let p = past_row c.args.at c.row.ensures c.from.ensures c.in-IF.is in (p ∙ ap next_of (sym t), ap opens_of (sym t))
 
 pub returns-in_default : goal.returns-in_default
-unfolding then_of past find_mark
-returns-in_default c = rw (c.mark_row-row.ensures, c.mark-m.ensures) (sym (leaf_follows (mark_of (mark_at c.args.file.now c.args.at)) _ _ _ c.mark-m.ensures (λ e. omega arith) (λ e. omega arith) (λ e. omega arith) (λ e. omega arith) (λ e. omega arith) (λ e. omega arith) (λ e. omega arith) (λ e. omega arith) (λ e. omega arith) (λ e. omega arith)))
+returns-in_default c = let t = followed c.args.rules.file.now c.args.rules.table.now.words c.args.at c.mark-m.ensures refl ∙ leaf_follows c.mark-m.result _ _ _ c.in_default.not-AT c.in_default.not-MK c.in_default.not-CL c.in_default.not-TL c.in_default.not-OP c.in_default.not-LK c.in_default.not-BR c.in_default.not-NU c.in_default.not-AR c.in_default.not-IF in let p = past_row c.args.at c.row.ensures c.from.ensures refl in (p ∙ ap next_of (sym t), ap opens_of (sym t))

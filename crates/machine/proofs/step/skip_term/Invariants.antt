@@ -4,7 +4,7 @@ use Rattle.machine.specs.Skips.{Skips, SkipsMany}
 use Rattle.machine.proofs.step.skip_term.Given as goal
 
 abbrev pub invariant-loop-p : goal.invariant-loop-p
-invariant-loop-p l = (next : ℕ) × Skips l.file l.decl l.at next × SkipsMany l.file l.decl l.p.at l.p.terms next
+invariant-loop-p l = (next : ℕ) × Skips l.rules.file.now l.rules.table.now.words l.at next × SkipsMany l.rules.file.now l.rules.table.now.words l.p.at l.p.terms next
 
 abbrev pub decreases-loop-p : goal.decreases-loop-p
-decreases-loop-p l = length l.file - l.p.at
+decreases-loop-p l = length l.rules.file.now - l.p.at

@@ -1,83 +1,73 @@
 -- The proof of `step`. Assumes nothing.
-use Rattle.std.proofs.Common.{◌<◌, ◌≤◌, refl, arith}
+use Rattle.std.proofs.Common.{not, eqb, refl, sym, ◌∙◌, arith}
 use Rattle.meaning.specs.declared.Mark.{Mark}
-use Rattle.meaning.specs.Marks.{mark_of, find_mark}
-use Rattle.standing.specs.Bytes.{mark_at}
-use Rattle.machine.proofs.step.Marked.{mark_is, no_node}
-use Rattle.machine.proofs.step.Needed.{fit_needs, fit_mark, fit_opens, steps_of, opens_of}
+use Rattle.machine.proofs.step.Marked.{no_node}
+use Rattle.machine.proofs.step.Needed.{fit_needs, fit_mark, steps_of}
+use Rattle.machine.proofs.step.Tries.{fit_node, gv_still, cl_still, ar_still, stepped, stepped_on}
 use Rattle.machine.proofs.step.step.Goals as goal
 
-pub mark-m-requires : goal.mark-m-requires
-mark-m-requires c = fit_mark c.requires
+pub node_mark-requires : goal.node_mark-requires
+node_mark-requires g c = (omega (arith, fit_mark c.requires), fit_node c.requires)
 
 pub give-requires : goal.give-requires
-give-requires c = fit_needs c.requires Mark.GV (mark_is (mark_at c.args.file.now c.args.s.frame.at) c.mark-m.ensures c.in-4.is)
+give-requires g c = fit_needs c.requires Mark.GV (sym c.node_mark.ensures ∙ c.in-GV.is)
 
 pub atom-requires : goal.atom-requires
-atom-requires c = fit_needs c.requires Mark.AT (mark_is (mark_at c.args.file.now c.args.s.frame.at) c.mark-m.ensures c.in-5.is)
+atom-requires g c = fit_needs c.requires Mark.AT (sym c.node_mark.ensures ∙ c.in-AT.is)
 
 pub make-requires : goal.make-requires
-make-requires c = fit_needs c.requires Mark.MK (mark_is (mark_at c.args.file.now c.args.s.frame.at) c.mark-m.ensures c.in-6.is)
+make-requires g c = fit_needs c.requires Mark.MK (sym c.node_mark.ensures ∙ c.in-MK.is)
 
 pub call-requires : goal.call-requires
-call-requires c = fit_needs c.requires Mark.CL (mark_is (mark_at c.args.file.now c.args.s.frame.at) c.mark-m.ensures c.in-7.is)
+call-requires g c = fit_needs c.requires Mark.CL (sym c.node_mark.ensures ∙ c.in-CL.is)
 
 pub tail-requires : goal.tail-requires
-tail-requires c = fit_needs c.requires Mark.TL (mark_is (mark_at c.args.file.now c.args.s.frame.at) c.mark-m.ensures c.in-8.is)
-
-pub number-requires : goal.number-requires
-number-requires c = fit_needs c.requires Mark.NU (mark_is (mark_at c.args.file.now c.args.s.frame.at) c.mark-m.ensures c.in-12.is)
-
-pub arith-requires : goal.arith-requires
-arith-requires c = fit_needs c.requires Mark.AR (mark_is (mark_at c.args.file.now c.args.s.frame.at) c.mark-m.ensures c.in-13.is)
-
-pub choose-requires : goal.choose-requires
-choose-requires c = fit_needs c.requires Mark.IF (mark_is (mark_at c.args.file.now c.args.s.frame.at) c.mark-m.ensures c.in-14.is)
+tail-requires g c = fit_needs c.requires Mark.TL (sym c.node_mark.ensures ∙ c.in-TL.is)
 
 pub take_branch-requires : goal.take_branch-requires
-take_branch-requires c =
-    let low : 9 ≤ c.mark-m.result = omega arith in
-    let high : c.mark-m.result < 11 = omega arith in
-    rw c.credit.ensures (fit_opens c.requires c.mark-m.ensures low high)
+take_branch-requires g c = fit_needs c.requires Mark.OP (sym c.node_mark.ensures ∙ c.in-OP.is)
 
-pub returns-in-4 : goal.returns-in-4
-returns-in-4 c = steps_of Mark.GV (mark_is (mark_at c.args.file.now c.args.s.frame.at) c.mark-m.ensures c.in-4.is) (refl, c.give.ensures)
+pub take_branch-requires-in-LK : goal.take_branch-requires-in-LK
+take_branch-requires-in-LK g c = fit_needs c.requires Mark.LK (sym c.node_mark.ensures ∙ c.in-LK.is)
 
-pub returns-in-5 : goal.returns-in-5
-returns-in-5 c = steps_of Mark.AT (mark_is (mark_at c.args.file.now c.args.s.frame.at) c.mark-m.ensures c.in-5.is) (refl, c.atom.ensures)
+pub number-requires : goal.number-requires
+number-requires g c = fit_needs c.requires Mark.NU (sym c.node_mark.ensures ∙ c.in-NU.is)
 
-pub returns-in-6 : goal.returns-in-6
-returns-in-6 c = steps_of Mark.MK (mark_is (mark_at c.args.file.now c.args.s.frame.at) c.mark-m.ensures c.in-6.is) c.make.ensures
+pub arith-requires : goal.arith-requires
+arith-requires g c = fit_needs c.requires Mark.AR (sym c.node_mark.ensures ∙ c.in-AR.is)
 
-pub returns-in-7 : goal.returns-in-7
-returns-in-7 c = steps_of Mark.CL (mark_is (mark_at c.args.file.now c.args.s.frame.at) c.mark-m.ensures c.in-7.is) (refl, c.call.ensures)
+pub choose-requires : goal.choose-requires
+choose-requires g c = fit_needs c.requires Mark.IF (sym c.node_mark.ensures ∙ c.in-IF.is)
 
-pub returns-in-8 : goal.returns-in-8
-returns-in-8 c = steps_of Mark.TL (mark_is (mark_at c.args.file.now c.args.s.frame.at) c.mark-m.ensures c.in-8.is) (refl, c.tail.ensures)
+pub returns-in-GV : goal.returns-in-GV
+returns-in-GV g c = stepped (not (eqb g.row.WORK_OUT 0)) c.args.rules.file.now c.args.rules.table.now.words c.args.store.now c.args.s c.args.work.now Mark.GV (sym c.node_mark.ensures ∙ c.in-GV.is) c.give.result c.give.new.work c.give.ensures (refl, refl) (gv_still _ _)
 
-pub returns-in-12 : goal.returns-in-12
-returns-in-12 c = steps_of Mark.NU (mark_is (mark_at c.args.file.now c.args.s.frame.at) c.mark-m.ensures c.in-12.is) (refl, c.number.ensures)
+pub returns-in-AT : goal.returns-in-AT
+returns-in-AT g c = steps_of Mark.AT (sym c.node_mark.ensures ∙ c.in-AT.is) (refl, c.atom.ensures)
 
-pub returns-in-13 : goal.returns-in-13
-returns-in-13 c = steps_of Mark.AR (mark_is (mark_at c.args.file.now c.args.s.frame.at) c.mark-m.ensures c.in-13.is) (refl, c.arith.ensures)
+pub returns-in-MK : goal.returns-in-MK
+returns-in-MK g c = steps_of Mark.MK (sym c.node_mark.ensures ∙ c.in-MK.is) c.make.ensures
 
-pub returns-in-14 : goal.returns-in-14
-returns-in-14 c = steps_of Mark.IF (mark_is (mark_at c.args.file.now c.args.s.frame.at) c.mark-m.ensures c.in-14.is) (refl, c.choose.ensures)
+pub returns-in-CL : goal.returns-in-CL
+returns-in-CL g c = stepped (not (eqb g.row.WORK_OUT 0)) c.args.rules.file.now c.args.rules.table.now.words c.args.store.now c.args.s c.args.work.now Mark.CL (sym c.node_mark.ensures ∙ c.in-CL.is) c.call.result c.call.new.work c.call.ensures (refl, refl) (cl_still _ _ _)
 
-pub returns-in-9 : goal.returns-in-9
-returns-in-9 c =
-    let low : 9 ≤ c.mark-m.result = omega arith in
-    let high : c.mark-m.result < 11 = omega arith in
-    opens_of c.mark-m.ensures low high (refl, rw c.credit.ensures at c.take_branch.ensures)
+pub returns-in-TL : goal.returns-in-TL
+returns-in-TL g c = steps_of Mark.TL (sym c.node_mark.ensures ∙ c.in-TL.is) (refl, c.tail.ensures)
+
+pub returns-in-OP : goal.returns-in-OP
+returns-in-OP g c = stepped_on (not (eqb g.row.WORK_OUT 0)) c.args.rules.file.now c.args.rules.table.now.words c.args.store.now c.args.s c.args.work.now Mark.OP (sym c.node_mark.ensures ∙ c.in-OP.is) _ c.take_branch.result c.take_branch.new.work (λ x s. (refl, s)) c.take_branch.ensures
+
+pub returns-in-LK : goal.returns-in-LK
+returns-in-LK g c = stepped_on (not (eqb g.row.WORK_OUT 0)) c.args.rules.file.now c.args.rules.table.now.words c.args.store.now c.args.s c.args.work.now Mark.LK (sym c.node_mark.ensures ∙ c.in-LK.is) _ c.take_branch-in-LK.result c.take_branch-in-LK.new.work (λ x s. (refl, s)) c.take_branch-in-LK.ensures
+
+pub returns-in-NU : goal.returns-in-NU
+returns-in-NU g c = steps_of Mark.NU (sym c.node_mark.ensures ∙ c.in-NU.is) (refl, c.number.ensures)
+
+pub returns-in-AR : goal.returns-in-AR
+returns-in-AR g c = stepped (not (eqb g.row.WORK_OUT 0)) c.args.rules.file.now c.args.rules.table.now.words c.args.store.now c.args.s c.args.work.now Mark.AR (sym c.node_mark.ensures ∙ c.in-AR.is) c.arith.result c.arith.new.work c.arith.ensures (refl, refl) (ar_still _ _)
+
+pub returns-in-IF : goal.returns-in-IF
+returns-in-IF g c = stepped_on (not (eqb g.row.WORK_OUT 0)) c.args.rules.file.now c.args.rules.table.now.words c.args.store.now c.args.s c.args.work.now Mark.IF (sym c.node_mark.ensures ∙ c.in-IF.is) _ c.choose.result c.choose.new.work (λ x s. (refl, s)) c.choose.ensures
 
 pub returns-in_default : goal.returns-in_default
-unfolding find_mark
-returns-in_default c =
-    let w = mark_of (mark_at c.args.file.now c.args.s.frame.at) in
-    steps_of w refl (no_node w _ _ _ _ c.mark-m.ensures (λ e. omega arith) (λ e. omega arith) (λ e. omega arith) (λ e. omega arith) (λ e. omega arith) (λ e. omega arith) (λ e. omega arith) (λ e. omega arith) (λ e. omega arith) (λ e. omega arith))
-
-pub returns-in_default-2 : goal.returns-in_default-2
-unfolding find_mark
-returns-in_default-2 c =
-    let w = mark_of (mark_at c.args.file.now c.args.s.frame.at) in
-    steps_of w refl (no_node w _ _ _ _ c.mark-m.ensures (λ e. omega arith) (λ e. omega arith) (λ e. omega arith) (λ e. omega arith) (λ e. omega arith) (λ e. omega arith) (λ e. omega arith) (λ e. omega arith) (λ e. omega arith) (λ e. omega arith))
+returns-in_default g c = steps_of c.node_mark.result (sym c.node_mark.ensures) (no_node c.node_mark.result _ _ _ _ c.in_default.not-GV c.in_default.not-AT c.in_default.not-MK c.in_default.not-CL c.in_default.not-TL c.in_default.not-OP c.in_default.not-LK c.in_default.not-NU c.in_default.not-AR c.in_default.not-IF)
