@@ -1,8 +1,7 @@
 // Bodies, read and checked in one pass, which notes their calls too. Behind a fault of the ownership check the rest is still read, since a
 // file that does not read is refused for that, wherever its other faults stand.
 ghost use Rattle.std.specs.Prelude.{◌≡◌, ◌+◌, ◌≤◌, ◌<◌, length, replicate};
-ghost use Rattle.meaning.specs.Marks.{find_mark, place_of};
-ghost use Rattle.standing.specs.Bytes.{mark_at};
+ghost use Rattle.meaning.specs.Marks.{place_of};
 ghost use Rattle.checker.specs.ReadingBytes.{path, known_count};
 ghost use Rattle.checker.specs.Opening.{Bodied};
 ghost use Rattle.checker.specs.Noting.{note_at};
@@ -12,16 +11,16 @@ ghost use Rattle.checker.specs.Slots.{spent_by, digit};
 ghost use Rattle.checker.specs.Bodies.{Passable, number_in, place_in, fault_after, place_after, NodeTaken, Checked, CheckedAll, CheckedBody, Finished};
 
 use crate::ownership::{
-    Modes, bind_all, bound_kind, branch_slots, first_place, head, repeats, result_sort,
-    second_place, seeing, slot_index, take_many, take_named, takes_many,
+    Modes, bind_all, bound_kind, branch_slots, head, named_places, repeats, result_sort, seeing,
+    slot_index, take_many, take_named, takes_many,
 };
 use crate::reading::{
     Header, Path, Then, expect_mark, read_branch, read_end, read_header, read_node,
 };
 use crate::sets::{lowest, without_lowest};
 use crate::slots::{Sort, fresh_slots, used};
-use meaning::{BYTES, Fault, Mark, Refusal, Slot, find_mark};
-use standing::{Rules, Table};
+use meaning::{BYTES, Fault, Mark, Refusal, Slot};
+use standing::{Rules, Table, mark_within};
 
 // What is noted in the pass: the calls of a body, as bits, and the first fault of the ownership check.
 #[derive(Clone, Copy, Debug, PartialEq, Eq)]
@@ -57,14 +56,6 @@ impl Notes {
     }
 }
 
-// The mark at a place within the file. The machine has the same: both ask that it lies there, and a public function would have to test it.
-fn mark(file: &[u8], at: usize) -> Mark
-    requires { (at ≤ 4096) × (at + 1 < length file.now) }
-    ensures { place_of result ≡ find_mark (mark_at file.now at) }
-{
-    find_mark(u16::from_be_bytes([file[at], file[at + 1]]))
-}
-
 // The slots of a set become used.
 fn spend(slots: &mut [Slot; 32], spent: u32)
     ensures { slots.new ≡ spent_by (bits_of 32 spent) slots.old }
@@ -78,7 +69,7 @@ fn spend(slots: &mut [Slot; 32], spent: u32)
 }
 
 // A node's record is taken: of the slots, those that it takes are spent, and the one that it binds, if there is one, is bound; its call is
-// noted, and its fault.
+// noted, and its fault. Slots and counts: see the head of ownership.rt.
 fn take_node(
     rules: Rules,
     at: usize,
@@ -91,13 +82,14 @@ fn take_node(
     requires { (at ≤ 4096) × (at + 1 < length rules.file.now) × (bound ≤ 32) × (after ≤ 32) }
     ensures { NodeTaken rules.entry.file.now rules.entry.table.now.words at sort bound after slots.old notes.old slots.new notes.new }
 {
-    let mark = mark(rules.file, at);
+    let mark = mark_within(rules.file, at);
     let taken = if takes_many(mark) {
         notes.call(rules, at, mark);
         take_many(rules, at, mark, sort, *slots, bound)
     } else {
-        let first = slots[slot_index(rules, first_place(mark, at))].kind;
-        let second = slots[slot_index(rules, second_place(mark, at))].kind;
+        let (one, other) = named_places(mark, at);
+        let first = slots[slot_index(rules, one)].kind;
+        let second = slots[slot_index(rules, other)].kind;
         take_named(rules, at, mark, first, second, bound)
     };
     notes.fault(taken.err());
@@ -201,7 +193,8 @@ fn check_body(rules: Rules, at: usize, f: usize, notes: &mut Notes) -> Result<us
     check_term(rules, start, result_sort(rules, f), slots, path, notes)
 }
 
-// The bodies of all functions, behind the header, each one's place into the table and its calls into a word, and the end of the file.
+// The bodies of all functions, behind the header, each one's place into the table and its calls into a word, and the end of the file. The table
+// is being written, so it goes beside the file.
 fn check_bodies(
     file: &[u8],
     table: &mut Table,
@@ -228,7 +221,7 @@ fn check_bodies(
     }
 }
 
-// The whole file, with what it declares in the table and the calls of each body in a word; or why it is refused.
+// The whole file, with what it declares in the table, which is written here, and the calls of each body in a word; or why it is refused.
 pub(crate) fn check_file(
     file: &[u8],
     table: &mut Table,

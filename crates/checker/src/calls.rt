@@ -6,6 +6,7 @@ ghost use Rattle.meaning.specs.Answers.{told, as_shape};
 ghost use Rattle.checker.specs.Bits.{bits_of};
 ghost use Rattle.checker.specs.Square.{way_of, row_of, square_of, Low};
 
+use crate::ownership::sees;
 use crate::sets::{count_of, either, except, has, lowest, with, without_lowest};
 use meaning::{How, Shape};
 use std::array;
@@ -13,14 +14,14 @@ use std::array;
 // ---- the square
 
 // How a body calls a function, by what is noted of its calls: a call that waits wins over a tail call.
-#[tactic(auto, using(crate::proofs::sets::Digits::has_bit), unfolding(crate::specs::Square::way_of, meaning::specs::Choice::pick))]
+#[tactic(auto, unfolding(crate::specs::Square::way_of, meaning::specs::Choice::pick))]
 fn way(calls: u64, g: usize) -> How
     requires { g < 32 }
     ensures { result ≡ way_of calls g }
 {
-    if (calls >> (g as u32)) % 2 == 1 {
+    if sees(calls, g) {
         How::Waits
-    } else if (calls >> (32 + g as u32)) % 2 == 1 {
+    } else if sees(calls, 32 + g) {
         How::Tail
     } else {
         How::Never

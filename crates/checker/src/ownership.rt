@@ -1,5 +1,6 @@
 // The ownership check: what a record takes, spends and binds, or its fault. The slots of the path go by value, with the count of those bound beside
 // them: document 01 has them as an array in this form, which the checks of terms and branches hand on.
+// Bounds of places and counts stand in each contract: a type for them would be opened at each sum.
 ghost use Rattle.std.specs.Prelude.{◌≡◌, false, ◌+◌, ◌*◌, ◌^◌, ◌%◌, ◌<◌, ◌≤◌, get_or, MatchResult};
 ghost use Rattle.std.specs.Int.Bits.{bit_or};
 ghost use Rattle.meaning.specs.Marks.{place_of};
@@ -58,10 +59,10 @@ impl Modes {
 pub(crate) fn result_sort(rules: Rules, f: usize) -> Sort
     ensures { result ≡ sort_at (result_in rules.entry.file.now rules.entry.table.now.words f) }
 {
-    Sort::of(rules.result(f))
+    Sort::from(rules.result(f))
 }
 
-// One slot of a kind, named at a place, on the way through a record.
+// One slot of a kind, named at a place, on the way through a record. The kind, and not the array: that would be copied for it.
 #[tactic(auto, unfolding(crate::specs::Ownership::take_kind, meaning::specs::Choice::pick))]
 fn take_kind(
     kind: Kind,
@@ -96,7 +97,7 @@ fn named(rules: Rules, at: usize, bound: usize) -> Result<usize, Refusal>
     Ok(i)
 }
 
-// The slot that is named at a place.
+// The slot that is named at a place. `take_one` is the same where the kind was looked up before; here the bound is tested first.
 #[tactic(auto, unfolding(crate::specs::Ownership::take_of, meaning::specs::Choice::pick))]
 fn take(
     rules: Rules,
@@ -294,27 +295,15 @@ pub(crate) fn take_named(
     }
 }
 
-// Where a record names its first slot.
-#[tactic(auto, unfolding(crate::specs::Ownership::first_place, meaning::specs::Choice::pick))]
-pub(crate) fn first_place(mark: Mark, at: usize) -> usize
+// Where a record names its first slot, and AR its second; of another record the second is the first again.
+#[tactic(auto, unfolding(crate::specs::Ownership::first_place, crate::specs::Ownership::second_place, meaning::specs::Choice::pick))]
+pub(crate) fn named_places(mark: Mark, at: usize) -> (usize, usize)
     requires { at ≤ 4096 }
-    ensures { result ≡ first_place (place_of mark) at }
+    ensures { (result.0 ≡ first_place (place_of mark) at) × (result.1 ≡ second_place (place_of mark) at) }
 {
     match mark {
-        Mark::AR => at + 3,
-        _ => at + 2,
-    }
-}
-
-// Where AR names its second slot; of another record, where it names its first.
-#[tactic(auto, unfolding(crate::specs::Ownership::second_place, meaning::specs::Choice::pick))]
-pub(crate) fn second_place(mark: Mark, at: usize) -> usize
-    requires { at ≤ 4096 }
-    ensures { result ≡ second_place (place_of mark) at }
-{
-    match mark {
-        Mark::AR => at + 4,
-        _ => at + 2,
+        Mark::AR => (at + 3, at + 4),
+        _ => (at + 2, at + 2),
     }
 }
 
@@ -380,9 +369,10 @@ pub(crate) fn branch_slots(
     bind_all(rules, fields, at, slots, bound, credit)
 }
 
-// Is the constructor in the set? A trait over this width and that of sets.rt would hold the same two bodies for each.
+// Is the constructor in the set? A trait over this width and that of sets.rt would hold the same two bodies for each; by way of this one, `has` would
+// need that the low digits are the same, and `with` a cast back.
 #[tactic(auto, using(crate::proofs::sets::Digits::has_bit))]
-fn sees(seen: u64, c: usize) -> bool
+pub(crate) fn sees(seen: u64, c: usize) -> bool
     requires { c < 64 }
     ensures { result ≡ get_or (bits_of 64 seen) c false }
 {
@@ -401,7 +391,7 @@ pub(crate) fn repeats(seen: u64, c: usize, place: usize) -> Option<Refusal>
     })
 }
 
-// The set with the constructor.
+// The set with the constructor; see `sees`.
 pub(crate) fn seeing(seen: u64, c: usize) -> u64
     requires { c < 64 }
     ensures { result ≡ bit_or seen (2 ^ c) }

@@ -82,7 +82,7 @@ pub(crate) fn expect_mark(file: &[u8], at: usize, mark: Mark) -> Result<usize, R
     Ok(at + MARK)
 }
 
-// The arity of a constructor; over every limit where it is not declared.
+// The arity of a constructor; over every limit where it is not declared, so that one test refuses both.
 #[tactic(auto, unfolding(crate::specs::ReadingBytes::known_arity, meaning::specs::Choice::pick))]
 fn arity(table: &Table, constructor: u8) -> usize
     ensures { result ≡ known_arity table.now.words constructor }
@@ -94,7 +94,7 @@ fn arity(table: &Table, constructor: u8) -> usize
     }
 }
 
-// How many parameters a function has; over every limit where it is not declared.
+// How many parameters a function has; over every limit where it is not declared, as `arity` has it.
 #[tactic(auto, unfolding(crate::specs::ReadingBytes::known_count, meaning::specs::Choice::pick))]
 fn parameters(table: &Table, function: u8) -> usize
     ensures { result ≡ known_count table.now.words function }
@@ -213,7 +213,8 @@ fn follows(file: &[u8], at: usize, mark: Mark, next: usize) -> Then
     }
 }
 
-// The node with this mark at a place, behind its fields: its limits, and what follows it from the next place on.
+// The node with this mark at a place, behind its fields: its limits, and what follows it from the next place on. It takes what was read of the
+// node, and the path to it, one by one: a struct would be made for this call alone.
 #[tactic(auto, unfolding(crate::specs::ReadingBytes::limited, crate::specs::ReadingBytes::binds_of, meaning::specs::Choice::pick, meaning::specs::Marks::row_at))]
 fn limits(file: &[u8], at: usize, mark: Mark, path: Path, next: usize) -> Result<Node, Refusal>
     requires { (at + 2 ≤ length file.now) × (path.slots ≤ 32) × (path.nodes ≤ 64) }
@@ -378,7 +379,8 @@ pub(crate) struct Header {
     pub at: usize,
 }
 
-// The records of one kind from a place on; each one's word goes into the table.
+// The records of one kind from a place on; each one's word goes into the table. Here the table is being written, so it goes beside the file and not
+// with it in Rules.
 fn read_records(
     file: &[u8],
     table: &mut Table,
@@ -405,6 +407,7 @@ fn read_records(
 }
 
 // The constructors and the functions of a file, with what they declare in the table, up to the first body: how many functions there are, and its place.
+// The table is being written.
 pub(crate) fn read_header(file: &[u8], table: &mut Table) -> Result<Header, Refusal>
     requires { (length file.now ≤ 4096) × (table.old.words ≡ table_with [] [] []) }
     ensures { HeaderRead file.now table.new.words result }

@@ -8,7 +8,7 @@ ghost use Rattle.std.specs.Int.Bits.{bit_or};
 ghost use Rattle.meaning.specs.Sets.{first, how_many, zip, or, except};
 ghost use Rattle.checker.specs.Bits.{bits_of};
 
-// Is i a member?
+// Is i a member? `sees` (ownership.rt) is its twin over 64 bits.
 pub(crate) fn has(x: u32, i: usize) -> bool
     requires { i < 32 }
     ensures { result ≡ get_or (bits_of 32 x) i false }
@@ -16,7 +16,7 @@ pub(crate) fn has(x: u32, i: usize) -> bool
     (x >> (i as u32)) % 2 == 1
 }
 
-// One member more.
+// One member more. `seeing` (ownership.rt) is its twin over 64 bits.
 pub(crate) fn with(x: u32, i: usize) -> u32
     requires { i < 32 }
     ensures { (result ≡ bit_or x (2 ^ i)) × (bits_of 32 result ≡ set (bits_of 32 x) i true) }

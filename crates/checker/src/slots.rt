@@ -14,18 +14,20 @@ pub(crate) enum Sort {
     Tree,
 }
 
-impl Sort {
+impl From<usize> for Sort {
+    ghost from_gives = { λ byte sort. sort ≡ sort_at byte };
+
     // The sort that a byte says.
     #[tactic(auto, unfolding(crate::specs::Slots::sort_at, meaning::specs::Choice::pick))]
-    pub(crate) fn of(byte: usize) -> Sort
-        ensures { result ≡ sort_at byte }
-    {
+    fn from(byte: usize) -> Sort {
         match byte {
             0 => Sort::Number,
             _ => Sort::Tree,
         }
     }
+}
 
+impl Sort {
     // A result is given back, and bound, as a number or as an owned tree.
     pub(crate) fn mode(self) -> Mode
         ensures { result ≡ given self }
@@ -37,7 +39,8 @@ impl Sort {
     }
 }
 
-// How a parameter or a field is handed over: as a number, a lent tree or an owned one.
+// How a parameter or a field is handed over: as a number, a lent tree or an owned one. The machine's Mode is an argument's byte alone; what this one
+// has are methods over Want and Kind, which in a crate below both would be three functions beside the type.
 #[derive(Clone, Copy, Debug, PartialEq, Eq)]
 pub(crate) enum Mode {
     Number,
@@ -158,14 +161,14 @@ pub(crate) fn current(kind: Kind, gone: bool) -> Kind
     if gone { used(kind) } else { kind }
 }
 
-// Is it an owned tree or a credit that is not used?
+// Is it an owned tree or a credit that is not used? A test with a name, since the answer to a condition is one equation.
 fn is_left(kind: Kind) -> bool
     ensures { result ≡ remains (record { kind = kind_of kind; used = used_in kind }) }
 {
     matches!(kind, Kind::Owned | Kind::Credit(_))
 }
 
-// Is an owned slot or a credit left among the bound ones, those of the set spent?
+// Is an owned slot or a credit left among the bound ones, those of the set spent? Slots and count: see the head of ownership.rt.
 pub(crate) fn left_over(slots: [Slot; 32], bound: usize, spent: u32) -> bool
     requires { bound ≤ 32 }
     ensures { result ≡ leftover (slots_of bound (spent_by (bits_of 32 spent) slots)) }

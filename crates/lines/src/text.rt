@@ -1,4 +1,4 @@
-// The texts of the lines: fields, each behind the one before.
+// The texts of the lines: fields, each behind the one before. Not by write!: no contract says that it ends well, and a line cannot fail.
 ghost use Rattle.std.specs.Prelude.{◌≡◌, [], ◌++◌, ◌+◌, ◌<◌, ◌≤◌, length};
 ghost use Rattle.meaning.specs.Answers.{as_shape, as_verdict, as_answer};
 ghost use Rattle.meaning.specs.Lines.{digits, verdict_line, answer_line, newline};

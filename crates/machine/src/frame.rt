@@ -1,4 +1,5 @@
 // A frame of the machine, the cells of the lent store, the layout of the lent work area, the state of a run, and a frame's slots in the work area.
+// Copying takes from where, to where and how many: so many parameters.
 ghost use Rattle.std.specs.Prelude.{◌≡◌, ◌+◌, ◌/◌, ◌<◌, ◌≤◌, true, length, replicate};
 ghost use Rattle.standing.specs.Bytes.{byte_at};
 ghost use Rattle.machine.specs.Layout.{slot_in, on, at_work, moved, bound, laid, gathered, words, Rising, Apart};
@@ -12,13 +13,10 @@ pub struct Frame {
 }
 
 impl Frame {
+    // A frame's base is its depth times this, one product, worked out where it is needed.
     pub const SLOTS: usize = 32;
 
     pub const MAX: usize = 32;
-
-    pub const SAVED: usize = Work::SAVED;
-
-    pub const ENDS: usize = Work::ENDS;
 
     // The first frame at a term, with no slots.
     fn empty(at: usize) -> Frame
@@ -148,19 +146,17 @@ pub(crate) fn bind(work: &mut [u32], s: State, v: u32, next: usize) -> State
     }
 }
 
-// The words of n slots that are named from a place on.
+// The words of n slots that are named from a place on, at most eight: the array's end is no slot's.
 pub(crate) fn gather(file: &[u8], work: &[u32], base: usize, at: usize, n: usize) -> [u32; 8]
     requires { (at + n ≤ length file.now) × (base + 256 ≤ length work.now) × (n ≤ 8) }
     ensures { result ≡ laid (replicate 8 0) 0 (gathered file.now work.now base at n) }
 {
     let mut out = [0u32; 8];
-    for j in 0..n {
-        out[j] = slot(file, work, base, at + j);
-    }
+    fill(file, &mut out, work, base, at, 0, n);
     out
 }
 
-// The words of n slots, laid one by one; none is laid over before it is read.
+// The words of n slots, laid one by one; none is laid over before it is read. `fill` is the same between two areas; here it is one.
 pub(crate) fn hand_over(file: &[u8], work: &mut [u32], base: usize, at: usize, to: usize, n: usize)
     requires { (at + n ≤ length file.now) × (base + 256 ≤ length work.old) × (to + n ≤ length work.old) × Apart file.now base at to n }
     ensures { work.new ≡ laid work.old to (gathered file.now work.old base at n) }
@@ -205,7 +201,8 @@ pub(crate) fn pass_on(file: &[u8], work: &mut [u32], base: usize, at: usize, n: 
     work[base..base + n].copy_from_slice(&values[..n]);
 }
 
-// The words of a slice from a place on, laid in the work area; two, the commonest, without a loop.
+// The words of a slice from a place on, laid in the work area; two, the commonest, without a loop. By copy_from_slice, a call within the loop of the
+// steps, a step took three to six times as long.
 pub(crate) fn load(from: &[u32], work: &mut [u32], p: usize, to: usize, k: usize)
     requires { (p + k ≤ length from.now) × (to + k ≤ length work.old) }
     ensures { work.new ≡ laid work.old to (words from.now p k) }
@@ -220,7 +217,7 @@ pub(crate) fn load(from: &[u32], work: &mut [u32], p: usize, to: usize, k: usize
     }
 }
 
-// The words of k slots, laid in the store; two without a loop.
+// The words of k slots, laid in another place than the work area; two without a loop.
 pub(crate) fn fill(
     file: &[u8],
     store: &mut [u32],

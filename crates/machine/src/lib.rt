@@ -24,7 +24,7 @@ fn unfit(store: usize, work: usize) -> bool
     store % Store::CELL != 0 || Store::CELLS * Store::CELL < store || work < Work::WORDS
 }
 
-// The start tested, and the file run where it is not refused.
+// The start tested, and the file run where it is not refused. Store and work area go on as they are lent.
 fn begin(
     rules: Rules,
     args: &[u32],

@@ -10,7 +10,7 @@ use crate::frame::{Store, Work};
 use meaning::{CONSTRUCTORS, Fault};
 use standing::{Rules, Table, byte_at};
 
-// How a function takes an argument: the byte that says so.
+// How a function takes an argument: the byte that says so. The checker's Mode (slots.rt) is also a field's, with methods over its own types.
 #[derive(Clone, Copy, Debug, PartialEq, Eq)]
 enum Mode {
     Number = 0,
@@ -18,7 +18,8 @@ enum Mode {
     Owned = 2,
 }
 
-// A field of a constructor, by its word in the table: 1 a tree, 16 a number, 0 past the arity.
+// A field of a constructor, by its word in the table: 1 a tree, 16 a number, 0 past the arity; a code is
+// summed from these. The word is handed in, which the table's methods would look up for each field.
 #[tactic(auto, unfolding(crate::specs::StartWords::bit_at, meaning::specs::Choice::pick))]
 fn bit_of(file: &[u8], word: u32, i: u32) -> u32
     requires { i < 4 }
@@ -64,7 +65,8 @@ fn number_fine(bits: u32, w: u32) -> bool
     bits % 2 == 0 || w < Store::NUMBERS
 }
 
-// Of four words from a place on, those whose bit is set are numbers.
+// Of four words from a place on, those whose bit is set are numbers. `name_fields` goes along a cell's words likewise, but changes the walk: one
+// function for both would need a closure over it, as long as the loop.
 fn numbers_in(store: &[u32], at: usize, bits: u32) -> bool
     requires { at + 4 ≤ length store.now }
     ensures { result ≡ numbers_fine store.now 4 bits at }
@@ -203,7 +205,7 @@ impl<'a> Walk<'a> {
         self.work[c]
     }
 
-    // One more naming of a cell.
+    // One more naming of a cell; a cell that is queued makes the queue longer by one.
     #[tactic(auto, using(crate::proofs::start::Cleared::wiped_set), unfolding(crate::specs::StartArea::bump_to, crate::specs::StartArea::counted, meaning::specs::Choice::pick))]
     fn bump(&mut self, c: usize)
         requires { c < 1024 }
@@ -247,7 +249,7 @@ impl<'a> Walk<'a> {
         Ok(())
     }
 
-    // Of four words from a place on, the cells that those name whose bit is set.
+    // Of four words from a place on, the cells that those name whose bit is set; see `numbers_in`.
     fn name_fields(&mut self, at: usize, bits: u32) -> Result<(), Fault>
         requires { at + 4 ≤ length self.old.store.now }
         ensures { NamesFields self.old self.new result at bits }

@@ -17,8 +17,8 @@ ghost use Rattle.machine.specs.Steps.{Opened, Chosen, Comes, Stepped, Node, by_d
 use crate::frame::{
     Frame, State, Store, Work, bind, byte, fill, go_to, hand_over, load, pass_on, slot,
 };
-use meaning::{MARK, Mark, Ran, RunEnd, find_mark};
-use standing::{Rules, Table};
+use meaning::{MARK, Mark, Ran, RunEnd};
+use standing::{Rules, Table, mark_within};
 use sums::sum;
 
 // How far a term is passed over: the byte reached, and the terms that are open there.
@@ -33,14 +33,6 @@ pub struct Passed {
 pub struct Pause {
     pub state: State,
     pub left: u32,
-}
-
-// The mark at a place within the file; the checker has the same (`bodies`).
-fn mark(file: &[u8], at: usize) -> Mark
-    requires { at + 2 ≤ length file.now }
-    ensures { result ≡ mark_of (mark_at file.now at) }
-{
-    find_mark(u16::from_be_bytes([file[at], file[at + 1]]))
 }
 
 // NU: bind a constant.
@@ -92,7 +84,7 @@ fn give(file: &[u8], work: &mut [u32], s: State) -> Option<State>
         return None;
     }
     let depth = s.frame.depth - 1;
-    let q = Frame::SAVED + depth * 2;
+    let q = Work::SAVED + depth * 2;
     let at = work[q] as usize;
     let bound = work[q + 1] as usize;
     let back = State {
@@ -136,7 +128,7 @@ fn call(rules: Rules, work: &mut [u32], s: State) -> Option<State>
     let base = depth * Frame::SLOTS;
     let g = byte(rules.file, at + 2);
     let n = rules.table.parameters(g);
-    let q = Frame::SAVED + depth * 2;
+    let q = Work::SAVED + depth * 2;
     work[q] = (at + 3 + n) as u32;
     work[q + 1] = s.frame.bound as u32;
     if n == 1 {
@@ -177,7 +169,7 @@ fn follows(rules: Rules, at: usize) -> Passed
     requires { Safe rules.file.now at }
     ensures { (result.at ≡ next_of (then_of rules.entry.file.now rules.entry.table.now.words at)) × (result.terms ≡ opens_of (then_of rules.entry.file.now rules.entry.table.now.words at)) }
 {
-    let m = mark(rules.file, at);
+    let m = mark_within(rules.file, at);
     let past = at + MARK + usize::from(m.row().fields);
     match m {
         Mark::AT => Passed { at: past, terms: 1 },
@@ -239,7 +231,7 @@ fn kept(work: &[u32], at: usize) -> Option<usize>
     requires { 1088 + at / 2 < length work.now }
     ensures { result ≡ kept_at work.now at }
 {
-    let word = work[Frame::ENDS + at / Work::APART] as usize;
+    let word = work[Work::ENDS + at / Work::APART] as usize;
     if word / Work::PLACE == at {
         return Some(word % Work::PLACE);
     }
@@ -257,7 +249,7 @@ fn end_of<const WORK_OUT: bool>(rules: Rules, work: &mut [u32], at: usize) -> Op
         return known;
     }
     let next = skip_term(rules, at);
-    work[Frame::ENDS + at / Work::APART] = (at * Work::PLACE + next) as u32;
+    work[Work::ENDS + at / Work::APART] = (at * Work::PLACE + next) as u32;
     Some(next)
 }
 

@@ -6,7 +6,8 @@ ghost use Rattle.meaning.specs.Marks.{place_of, row_at, size_at, binds_at, find_
 ghost use Rattle.meaning.specs.Keys.{key_of, by_key};
 ghost use Rattle.meaning.specs.Answers.{fault_number, number, as_end, value_of};
 
-// The mark of a record, in the order of the table of marks; or of none.
+// The mark of a record, in the order of the table of marks; or of none. Other is a case and no None, since a mark that was read may be none of these,
+// and the definitions share the type.
 #[derive(Clone, Copy, Debug, PartialEq, Eq)]
 pub enum Mark {
     CN,
@@ -290,26 +291,26 @@ pub struct Call {
     pub how: How,
 }
 
-// Why a file or a start is refused, in the order of document 01's table of answers.
+// Why a file or a start is refused, by its number in document 01's table of answers.
 #[derive(Clone, Copy, Debug, PartialEq, Eq)]
 pub enum Fault {
-    TooLong,
-    EndsEarly,
-    MarkNotAllowed,
-    OutOfRange,
-    LimitPassed,
-    BytesBehind,
-    NotBound,
-    WrongKind,
-    Used,
-    OtherSize,
-    LeftOver,
-    ConstructorTwice,
-    WrongSize,
-    WrongCount,
-    Malformed,
-    NamedTwice,
-    ReachesItself,
+    TooLong = 1,
+    EndsEarly = 2,
+    MarkNotAllowed = 3,
+    OutOfRange = 4,
+    LimitPassed = 5,
+    BytesBehind = 6,
+    NotBound = 7,
+    WrongKind = 8,
+    Used = 9,
+    OtherSize = 10,
+    LeftOver = 11,
+    ConstructorTwice = 12,
+    WrongSize = 20,
+    WrongCount = 21,
+    Malformed = 22,
+    NamedTwice = 23,
+    ReachesItself = 24,
 }
 
 impl Fault {
@@ -317,25 +318,7 @@ impl Fault {
     pub fn number(self) -> u32
         ensures { result ≡ fault_number self }
     {
-        match self {
-            Fault::TooLong => 1,
-            Fault::EndsEarly => 2,
-            Fault::MarkNotAllowed => 3,
-            Fault::OutOfRange => 4,
-            Fault::LimitPassed => 5,
-            Fault::BytesBehind => 6,
-            Fault::NotBound => 7,
-            Fault::WrongKind => 8,
-            Fault::Used => 9,
-            Fault::OtherSize => 10,
-            Fault::LeftOver => 11,
-            Fault::ConstructorTwice => 12,
-            Fault::WrongSize => 20,
-            Fault::WrongCount => 21,
-            Fault::Malformed => 22,
-            Fault::NamedTwice => 23,
-            Fault::ReachesItself => 24,
-        }
+        self as u32
     }
 }
 
@@ -365,7 +348,7 @@ pub enum RunEnd {
 }
 
 impl RunEnd {
-    // The end's number in document 01's table.
+    // The end's number in document 01's table; an end with a value has no number of its own to be cast.
     pub fn number(self) -> u32
         ensures { result ≡ number (as_end self) }
     {

@@ -36,8 +36,8 @@ pub struct Summary {
 // Why a month is refused: over 4,096 runs or a part of one, or an answer number that is not in the table.
 #[derive(Clone, Copy, Debug, PartialEq, Eq)]
 pub enum Refusal {
-    WrongLength,
-    UnknownNumber,
+    WrongLength = 80,
+    UnknownNumber = 81,
 }
 
 impl Refusal {
@@ -45,10 +45,7 @@ impl Refusal {
     pub fn number(self) -> u32
         ensures { result ≡ refusal_number self }
     {
-        match self {
-            Refusal::WrongLength => 80,
-            Refusal::UnknownNumber => 81,
-        }
+        self as u32
     }
 }
 
@@ -75,7 +72,7 @@ pub fn number_at(i: usize) -> u32
     NUMBERS.get(i).copied().unwrap_or(0)
 }
 
-// Is it in the table of answer numbers?
+// Is it in the table of answer numbers? `contains` with the contract that a closure needs.
 fn in_table(number: u32) -> bool
     ensures { result ≡ among number numbers }
 {
@@ -161,7 +158,7 @@ impl<'a> Runs<'a> {
         NUMBERS.map(|number| self.count_of(number))
     }
 
-    // The greatest of a figure over the runs that ended with 0; with no such run, 0.
+    // The greatest of a figure over the runs that ended with 0 (a number: it is a word of the month); with no such run, 0.
     fn greatest<F: FnMut(Run) -> u32>(&self, figure: F) -> u32
         requires { (f : F) (x : _) → F.pre f x }
         ensures { (f : Run → ℕ) → ActsAs F.FnMut figure f → result ≡ greatest (map f (ended (runs_of self.now.words.now))) }
@@ -175,7 +172,7 @@ impl<'a> Runs<'a> {
             .unwrap_or(0)
     }
 
-    // The least steps of the runs that ended with 0; with no such run, 0.
+    // The least steps of the runs that ended with 0; with no such run, 0. One function for both would take `max` or `min` as a closure, and be no shorter.
     fn least_steps(&self) -> u32
         ensures { result ≡ least (steps_of (runs_of self.now.words.now)) }
     {

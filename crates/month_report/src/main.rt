@@ -9,7 +9,7 @@ use streams::BUFFER;
 // The most words of an input: one run more than a month may have, so that the refusal 80 can show.
 const MOST: usize = 12291;
 
-// What an answer number means.
+// What an answer number means, as `number_at` gives it.
 fn meaning(number: u32) -> &'static str {
     match number {
         0 => "run done",
@@ -90,8 +90,8 @@ fn report<W: Write>(output: &mut W, input: &[u8]) -> io::Result<()> {
     say_month(output, month::month(words))
 }
 
-// Reads an input to its end, and prints its month. The buffer has more bytes than the longest input, of 4 + 4 * 12,291, and a longer one is bad
-// whatever its bytes are: so what does not fit is not missed.
+// Reads an input to its end, and prints its month, in many lines where `streams::answer` lays one. The buffer has more bytes than the longest input, of
+// 4 + 4 * 12,291, and a longer one is bad whatever its bytes are: so what does not fit is not missed.
 fn answer<R: Read, W: Write>(input: &mut R, output: &mut W) -> io::Result<()> {
     let mut bytes = [0; BUFFER];
     let n = streams::read_full(input, &mut bytes)?;

@@ -1,5 +1,5 @@
 -- Bytes and marks by their place in a file, and what the table of a file's declarations says. Assumes nothing.
-use Rattle.std.specs.Prelude.{ℕ, zero, suc, ◌+◌, ◌*◌, ◌/◌, ◌%◌, ◌<◌, List, [], ◌∷◌, ◌≡◌, length, get_or, ltb, Option, None, Some}
+use Rattle.std.specs.Prelude.{ℕ, zero, suc, ◌+◌, ◌*◌, ◌/◌, ◌%◌, List, [], ◌∷◌, length, get_or, ltb, Option, None, Some}
 use Rattle.meaning.specs.Choice.{pick}
 use Rattle.meaning.specs.declared.Mark.{Mark}
 use Rattle.meaning.specs.Marks.{place_of, find_mark}
@@ -45,9 +45,3 @@ body_in table f = get_or table (96 + f) 0
 -- the sort of a function's result, whose byte stands behind the modes
 abbrev pub result_in : (bytes table : List ℕ) → ℕ → ℕ
 result_in bytes table f = byte_at bytes (modes_in table f + params_in table f)
-
--- what is read from a table by an index below a count: the entry; `past` at another index, which a table with all its words gives there too
-pub record Entry (table : List ℕ) (count i entry past r : ℕ) : Type 0 where
-  pub exact : r ≡ pick (ltb i count) entry past
-  pub inside : i < count → r ≡ entry
-  pub whole : length table ≡ 128 → r ≡ entry

@@ -2,8 +2,9 @@
 // that reading gives it in proofs/.
 #![tactic(auto)]
 
-ghost use Rattle.std.specs.Prelude.{◌≡◌, ◌+◌, ◌*◌, ◌/◌, ◌%◌, ◌<◌, get_or, replicate};
-ghost use Rattle.standing.specs.Bytes.{byte_at, read_number, number_at, arity_in, fields_in, params_in, modes_in, body_in, result_in};
+ghost use Rattle.std.specs.Prelude.{◌≡◌, ◌+◌, ◌*◌, ◌/◌, ◌%◌, ◌<◌, ◌≤◌, get_or, length, replicate};
+ghost use Rattle.meaning.specs.Marks.{place_of, find_mark};
+ghost use Rattle.standing.specs.Bytes.{byte_at, mark_at, read_number, number_at, arity_in, fields_in, params_in, modes_in, body_in, result_in};
 
 use meaning::{Mark, find_mark};
 
@@ -14,6 +15,14 @@ pub fn byte_at(file: &[u8], at: usize) -> usize
     usize::from(file.get(at).copied().unwrap_or(0))
 }
 
+// The mark at a place where the file has both its bytes.
+pub fn mark_within(file: &[u8], at: usize) -> Mark
+    requires { at + 2 ≤ length file.now }
+    ensures { place_of result ≡ find_mark (mark_at file.now at) }
+{
+    find_mark(u16::from_be_bytes([file[at], file[at + 1]]))
+}
+
 // The mark at a place; none where the file ends within it.
 #[tactic(auto, using(crate::proofs::Entries::early, crate::proofs::Entries::marked))]
 pub fn mark_at(file: &[u8], at: usize) -> Option<Mark>
@@ -22,7 +31,7 @@ pub fn mark_at(file: &[u8], at: usize) -> Option<Mark>
     if file.len() < 2 || file.len() - 2 < at {
         return None;
     }
-    Some(find_mark(u16::from_be_bytes([file[at], file[at + 1]])))
+    Some(mark_within(file, at))
 }
 
 // The table of a file's declarations: a word for each constructor, then one for each function, then the place of each body. A word holds a count,
@@ -54,22 +63,13 @@ impl Table {
         }
     }
 
-    // A constructor's word, 0 past the table.
-    fn constructor(&self, c: usize) -> usize
-        ensures { (result ≡ get_or self.now.words c 0) × (result < 4294967296) }
+    // The word at an index behind a place, 0 past the table.
+    fn word(&self, from: usize, i: usize) -> usize
+        requires { from ≤ 96 }
+        ensures { (result ≡ get_or self.now.words (from + i) 0) × (result < 4294967296) }
     {
-        if c < Table::WORDS {
-            return self.words[c] as usize;
-        }
-        0
-    }
-
-    // A function's word, 0 past the table.
-    fn function(&self, f: usize) -> usize
-        ensures { (result ≡ get_or self.now.words (64 + f) 0) × (result < 4294967296) }
-    {
-        if f < Table::WORDS - Table::FUNCTIONS {
-            return self.words[Table::FUNCTIONS + f] as usize;
+        if i < Table::WORDS - from {
+            return self.words[from + i] as usize;
         }
         0
     }
@@ -78,38 +78,35 @@ impl Table {
     pub fn arity(&self, c: usize) -> usize
         ensures { (result ≡ arity_in self.now.words c) × (result < 256) }
     {
-        self.constructor(c) % Table::PLACE
+        self.word(0, c) % Table::PLACE
     }
 
     // The place of the sort of a constructor's first field.
     pub fn sorts(&self, c: usize) -> usize
         ensures { (result ≡ fields_in self.now.words c) × (result < 16777216) }
     {
-        self.constructor(c) / Table::PLACE
+        self.word(0, c) / Table::PLACE
     }
 
     // A function's count of parameters.
     pub fn parameters(&self, f: usize) -> usize
         ensures { (result ≡ params_in self.now.words f) × (result < 256) }
     {
-        self.function(f) % Table::PLACE
+        self.word(Table::FUNCTIONS, f) % Table::PLACE
     }
 
     // The place of the mode of a function's first parameter.
     pub fn modes(&self, f: usize) -> usize
         ensures { (result ≡ modes_in self.now.words f) × (result < 16777216) }
     {
-        self.function(f) / Table::PLACE
+        self.word(Table::FUNCTIONS, f) / Table::PLACE
     }
 
     // The place of a function's body.
     pub fn body(&self, f: usize) -> usize
         ensures { (result ≡ body_in self.now.words f) × (result < 4294967296) }
     {
-        if f < Table::WORDS - Table::BODIES {
-            return self.words[Table::BODIES + f] as usize;
-        }
-        0
+        self.word(Table::BODIES, f)
     }
 }
 
@@ -143,7 +140,7 @@ impl Rules<'_> {
         byte_at(self.file, at)
     }
 
-    // The sort of a function's result: 0 number, 1 tree.
+    // The byte of the sort of a function's result; the checker makes a Sort of it.
     pub fn result(self, f: usize) -> usize
         ensures { (result ≡ result_in self.entry.file.now self.entry.table.now.words f) × (result < 256) }
     {

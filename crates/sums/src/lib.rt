@@ -15,7 +15,7 @@ fn difference(a: u32, b: u32) -> u64
 }
 
 // AR's operations: the exact result, or a number over 65,535 where that is outside 0..65,535. What needs no jump is worked out before the
-// operation is chosen.
+// operation is chosen. The operation is AR's byte as the file has it: an enum would be made from it at each step only to be matched here.
 pub fn sum(op: usize, a: u32, b: u32) -> u64
     ensures { result ≡ sum_of op a b }
 {

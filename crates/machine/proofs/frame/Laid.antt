@@ -46,14 +46,7 @@ laid_at l p (w ∷ ws) (suc j) h b =
     let z = length-set l p w in
     rw e (laid_at (set l p w) (p + 1) ws j (omega arith) (omega arith))
 
--- a loop that lays words: its start, a turn, its end
-pub start_words : (m l : List ℕ) (to p n : ℕ) → laid m to (words l p n) ≡ laid m (to + 0) (words l (p + 0) (n - 0))
-start_words m l to p n =
-    let a : to ≡ to + 0 = omega arith in
-    let b : p ≡ p + 0 = omega arith in
-    let c : n ≡ n - 0 = omega arith in
-    λ i. laid m (a i) (words l (b i) (c i))
-
+-- a loop that lays words: a turn, and its end
 pub turn_words : (X m l : List ℕ) (to p n j i : ℕ) → j < n → i ≡ p + j → X ≡ laid m (to + j) (words l (p + j) (n - j))
     → X ≡ laid (set m (to + j) (get_or l i 0)) (to + (j + 1)) (words l (p + (j + 1)) (n - (j + 1)))
 unfolding laid words
@@ -66,13 +59,6 @@ turn_words X m l to p n j i h e x =
 pub end_words : (X m l : List ℕ) (to p n j : ℕ) → n ≤ j → X ≡ laid m (to + j) (words l (p + j) (n - j)) → m ≡ X
 unfolding laid words
 end_words X m l to p n j h x = let a : n - j ≡ 0 = omega arith in sym (x ∙ ap (λ k. laid m (to + j) (words l (p + j) k)) a)
-
-pub start_gathered : (m bytes work : List ℕ) (base to at n : ℕ) → laid m to (gathered bytes work base at n) ≡ laid m (to + 0) (gathered bytes work base (at + 0) (n - 0))
-start_gathered m bytes work base to at n =
-    let a : to ≡ to + 0 = omega arith in
-    let b : at ≡ at + 0 = omega arith in
-    let c : n ≡ n - 0 = omega arith in
-    λ i. laid m (a i) (gathered bytes work base (b i) (c i))
 
 pub turn_gathered : (X m bytes work : List ℕ) (base to at n j i v : ℕ) → j < n → i ≡ to + j → v ≡ slot_in bytes work base (at + j) → X ≡ laid m (to + j) (gathered bytes work base (at + j) (n - j))
     → X ≡ laid (set m i v) (to + (j + 1)) (gathered bytes work base (at + (j + 1)) (n - (j + 1)))

@@ -11,7 +11,7 @@ use Rattle.checker.proofs.bodies.take_node.Goals.{then-takes_many, else-takes_ma
 pub returns-then-bound-after : goal.returns-then-bound-after
 returns-then-bound-after c =
     let a = c.args in
-    node_taken a.rules.file.now a.rules.table.now.words a.at a.sort a.bound a.after a.slots.now a.notes.now c.if-takes_many.notes c.fault.new.self c.requires.2 (place_of c.mark-mark.result) c.if-takes_many.taken c.mark-mark.ensures
+    node_taken a.rules.file.now a.rules.table.now.words a.at a.sort a.bound a.after a.slots.now a.notes.now c.if-takes_many.notes c.fault.new.self c.requires.2 (place_of c.mark_within-mark.result) c.if-takes_many.taken c.mark_within-mark.ensures
     (elim c.if-takes_many.branch [
       | then-takes_many w ↦ (
         many_takes a.rules.file.now a.rules.table.now.words a.at a.bound a.slots.now a.sort c.requires.2 c.takes_many.ensures w.if-takes_many.true (ap as_taken w.taken-is) w.take_many-taken.ensures (ap (λ x. x.calls) w.notes-is) w.call.ensures.calls,
@@ -19,18 +19,18 @@ returns-then-bound-after c =
       )
       | else-takes_many w ↦ (
         named_takes a.rules.file.now a.rules.table.now.words a.at a.bound a.slots.now a.sort c.requires.2 c.takes_many.ensures w.if-takes_many.false (ap as_taken w.taken-is) w.take_named-taken.ensures (ap (λ x. x.calls) w.notes-is)
-            (w.slot_index.ensures.0 ∙ ap (λ x. byte_at a.rules.file.now x % 32) w.first_place.ensures) refl
-            (w.slot_index-else-takes_many.ensures.0 ∙ ap (λ x. byte_at a.rules.file.now x % 32) w.second_place.ensures) refl,
+            (w.slot_index.ensures.0 ∙ ap (λ x. byte_at a.rules.file.now x % 32) w.named_places-one.ensures.0) refl
+            (w.slot_index-else-takes_many.ensures.0 ∙ ap (λ x. byte_at a.rules.file.now x % 32) w.named_places-one.ensures.1) refl,
         ap (λ x. x.fault) w.notes-is,
       )
     ])
     c.err.ensures.value c.unwrap_or.ensures c.spend.ensures c.fault.ensures.calls c.fault.ensures.number c.fault.ensures.place
-    (λ s. one_bound a.rules.file.now a.rules.table.now.words a.at (place_of c.mark-mark.result) (as_taken c.if-takes_many.taken).spent a.bound a.after a.slots.now c.spend.new.slots _ s refl c.if-bound-after.true c.bound_kind.ensures)
+    (λ s. one_bound a.rules.file.now a.rules.table.now.words a.at (place_of c.mark_within-mark.result) (as_taken c.if-takes_many.taken).spent a.bound a.after a.slots.now c.spend.new.slots _ s refl c.if-bound-after.true c.bound_kind.ensures)
 
 pub returns-else-bound-after : goal.returns-else-bound-after
 returns-else-bound-after c =
     let a = c.args in
-    node_taken a.rules.file.now a.rules.table.now.words a.at a.sort a.bound a.after a.slots.now a.notes.now c.if-takes_many.notes c.fault.new.self c.requires.2 (place_of c.mark-mark.result) c.if-takes_many.taken c.mark-mark.ensures
+    node_taken a.rules.file.now a.rules.table.now.words a.at a.sort a.bound a.after a.slots.now a.notes.now c.if-takes_many.notes c.fault.new.self c.requires.2 (place_of c.mark_within-mark.result) c.if-takes_many.taken c.mark_within-mark.ensures
     (elim c.if-takes_many.branch [
       | then-takes_many w ↦ (
         many_takes a.rules.file.now a.rules.table.now.words a.at a.bound a.slots.now a.sort c.requires.2 c.takes_many.ensures w.if-takes_many.true (ap as_taken w.taken-is) w.take_many-taken.ensures (ap (λ x. x.calls) w.notes-is) w.call.ensures.calls,
@@ -38,10 +38,10 @@ returns-else-bound-after c =
       )
       | else-takes_many w ↦ (
         named_takes a.rules.file.now a.rules.table.now.words a.at a.bound a.slots.now a.sort c.requires.2 c.takes_many.ensures w.if-takes_many.false (ap as_taken w.taken-is) w.take_named-taken.ensures (ap (λ x. x.calls) w.notes-is)
-            (w.slot_index.ensures.0 ∙ ap (λ x. byte_at a.rules.file.now x % 32) w.first_place.ensures) refl
-            (w.slot_index-else-takes_many.ensures.0 ∙ ap (λ x. byte_at a.rules.file.now x % 32) w.second_place.ensures) refl,
+            (w.slot_index.ensures.0 ∙ ap (λ x. byte_at a.rules.file.now x % 32) w.named_places-one.ensures.0) refl
+            (w.slot_index-else-takes_many.ensures.0 ∙ ap (λ x. byte_at a.rules.file.now x % 32) w.named_places-one.ensures.1) refl,
         ap (λ x. x.fault) w.notes-is,
       )
     ])
     c.err.ensures.value c.unwrap_or.ensures c.spend.ensures c.fault.ensures.calls c.fault.ensures.number c.fault.ensures.place
-    (λ s. none_bound a.rules.file.now a.rules.table.now.words a.at (place_of c.mark-mark.result) (as_taken c.if-takes_many.taken).spent a.bound a.after a.slots.now c.spend.new.slots _ s refl c.if-bound-after.false)
+    (λ s. none_bound a.rules.file.now a.rules.table.now.words a.at (place_of c.mark_within-mark.result) (as_taken c.if-takes_many.taken).spent a.bound a.after a.slots.now c.spend.new.slots _ s refl c.if-bound-after.false)
