@@ -3,13 +3,12 @@
 
 ghost use Rattle.std.specs.Prelude.{◌≡◌, OnOk};
 ghost use Rattle.std.specs.Io.KnownBytes.{Appends};
-ghost use Rattle.lines.specs.Writing.{Line};
 ghost use Rattle.cases.specs.Kinds.{kind_of, line_by_kind};
 
 use lines::ROOM;
 use std::io;
 use std::io::{Read, Write};
-use streams::BUFFER;
+use streams::{BUFFER, Program};
 
 // What a case asks for.
 #[derive(Clone, Copy, Debug, PartialEq, Eq)]
@@ -25,6 +24,17 @@ impl From<u8> for Kind {
         match byte {
             0 => Kind::Check,
             _ => Kind::Run,
+        }
+    }
+}
+
+impl Program for Kind {
+    ghost line = { line_by_kind };
+
+    fn lay(&self, input: &[u8], room: &mut [u8; ROOM]) -> usize {
+        match *self {
+            Kind::Check => lines::check_line(input, room),
+            Kind::Run => lines::run_line(input, room),
         }
     }
 }
@@ -49,23 +59,11 @@ fn next_head<R: Read>(input: &mut R) -> io::Result<Option<Head>> {
     }))
 }
 
-// Lays the line of a case, and answers how many bytes it has.
-fn case_line(kind: Kind, input: &[u8], out: &mut [u8; ROOM]) -> usize
-    ensures { Line (line_by_kind kind input.now) out.old out.new result }
-{
-    match kind {
-        Kind::Check => lines::check_line(input, out),
-        Kind::Run => lines::run_line(input, out),
-    }
-}
-
 // Prints the line of a case.
 fn print_line<W: Write>(output: &mut W, kind: Kind, input: &[u8]) -> io::Result<()>
     ensures { OnOk result (Appends (W.contents output.old) (W.contents output.new) (line_by_kind kind input.now)) }
 {
-    streams::write_line(output, input, |bytes: &[u8], out: &mut [u8; ROOM]| {
-        case_line(kind, bytes, out)
-    })
+    streams::write_line(output, input, &kind)
 }
 
 // Reads a case's bytes, and prints its line; a case that says more bytes than the buffer has gets none.

@@ -20,7 +20,7 @@ use crate::reading::{
 use crate::sets::{lowest, without_lowest};
 use crate::slots::{Sort, fresh_slots, used};
 use meaning::{BYTES, Fault, Mark, Refusal, Slot};
-use standing::{Rules, Table, mark_within};
+use standing::{Rules, Table, mark_at};
 
 // What is noted in the pass: the calls of a body, as bits, and the first fault of the ownership check.
 #[derive(Clone, Copy, Debug, PartialEq, Eq)]
@@ -82,7 +82,7 @@ fn take_node(
     requires { (at ≤ 4096) × (at + 1 < length rules.file.now) × (bound ≤ 32) × (after ≤ 32) }
     ensures { NodeTaken rules.entry.file.now rules.entry.table.now.words at sort bound after slots.old notes.old slots.new notes.new }
 {
-    let mark = mark_within(rules.file, at);
+    let mark = mark_at(rules.file, at).unwrap_or(Mark::Other);
     let taken = if takes_many(mark) {
         notes.call(rules, at, mark);
         take_many(rules, at, mark, sort, *slots, bound)

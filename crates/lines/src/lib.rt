@@ -10,7 +10,7 @@ ghost use Rattle.meaning.specs.Lines.{check_line, run_line};
 ghost use Rattle.lines.specs.Writing.{Line};
 
 use input::Request;
-pub use word::{copy_words, word_at};
+pub use word::read_words;
 
 // The bytes of a line's room: more than the longest line takes, which has five numbers of ten digits.
 pub const ROOM: usize = 64;

@@ -18,7 +18,7 @@ use crate::frame::{
     Frame, State, Store, Work, bind, byte, fill, go_to, hand_over, load, pass_on, slot,
 };
 use meaning::{MARK, Mark, Ran, RunEnd};
-use standing::{Rules, Table, mark_within};
+use standing::{Rules, Table, mark_at};
 use sums::sum;
 
 // How far a term is passed over: the byte reached, and the terms that are open there.
@@ -169,7 +169,7 @@ fn follows(rules: Rules, at: usize) -> Passed
     requires { Safe rules.file.now at }
     ensures { (result.at ≡ next_of (then_of rules.entry.file.now rules.entry.table.now.words at)) × (result.terms ≡ opens_of (then_of rules.entry.file.now rules.entry.table.now.words at)) }
 {
-    let m = mark_within(rules.file, at);
+    let m = mark_at(rules.file, at).unwrap_or(Mark::Other);
     let past = at + MARK + usize::from(m.row().fields);
     match m {
         Mark::AT => Passed { at: past, terms: 1 },

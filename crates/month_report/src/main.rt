@@ -9,6 +9,9 @@ use streams::BUFFER;
 // The most words of an input: one run more than a month may have, so that the refusal 80 can show.
 const MOST: usize = 12291;
 
+// The words of an input, with their count before them.
+const WORDS: usize = 1 + MOST;
+
 // What an answer number means, as `number_at` gives it.
 fn meaning(number: u32) -> &'static str {
     match number {
@@ -77,17 +80,13 @@ fn say_month<W: Write>(output: &mut W, month: Result<Summary, Refusal>) -> io::R
 
 // Prints the month of an input, or that the input is bad.
 fn report<W: Write>(output: &mut W, input: &[u8]) -> io::Result<()> {
-    if input.len() < 4 {
-        return writeln!(output, "bad input");
-    }
-    let count = lines::word_at(input, 0) as usize;
+    let mut words = [0; WORDS];
+    lines::read_words(input, &mut words);
+    let count = words[0] as usize;
     if count > MOST || input.len() != 4 + 4 * count {
         return writeln!(output, "bad input");
     }
-    let mut words = [0; MOST];
-    let words = &mut words[..count];
-    lines::copy_words(&input[4..], words);
-    say_month(output, month::month(words))
+    say_month(output, month::month(&words[1..1 + count]))
 }
 
 // Reads an input to its end, and prints its month, in many lines where `streams::answer` lays one. The buffer has more bytes than the longest input, of

@@ -3,14 +3,11 @@ use mathlib.Core.Path.{◌≡◌, sym, ◌∙◌}
 use contract.Lifetimes.{Lfts}
 use borrow.Fn.Kinds.{Dens, res_t, ended_of}
 use denote.Triple.Clauses.{AtExit}
-use Rattle.meaning.proofs.Table.{one_place}
 use Rattle.standing.proofs.Entries.{one_read}
 use Rattle.standing.proofs.byte_at.Reads as byte_at
 use Rattle.standing.proofs.byte_at.Kinds as byte_at_kinds
 use Rattle.standing.proofs.mark_at.Reads as mark_at
 use Rattle.standing.proofs.mark_at.Kinds as mark_at_kinds
-use Rattle.standing.proofs.mark_within.Reads as mark_within
-use Rattle.standing.proofs.mark_within.Kinds as mark_within_kinds
 use Rattle.standing.proofs.entry_word.Reads as entry_word
 use Rattle.standing.proofs.entry_word.Kinds as entry_word_kinds
 use Rattle.standing.proofs.Table.arity.Reads as arity
@@ -29,10 +26,6 @@ use Rattle.standing.proofs.Table.body.Kinds as body_kinds
 pub byte_at_only : (κs : Lfts 1) (a : Dens κs byte_at_kinds.ps) (r s : (res_t byte_at_kinds.r κs).Denot)
     (e f : AtExit (ended_of 1 byte_at_kinds.ps byte_at_kinds.r) κs) → byte_at.Post κs a r e → byte_at.Post κs a s f → r ≡ s
 byte_at_only κs a r s e f p q = p.0 ∙ sym q.0
-
-pub mark_within_only : (κs : Lfts 1) (a : Dens κs mark_within_kinds.ps) (r s : (res_t mark_within_kinds.r κs).Denot)
-    (e f : AtExit (ended_of 1 mark_within_kinds.ps mark_within_kinds.r) κs) → mark_within.Post κs a r e → mark_within.Post κs a s f → r ≡ s
-mark_within_only κs a r s e f p q = one_place r s (p ∙ sym q)
 
 pub mark_at_only : (κs : Lfts 1) (a : Dens κs mark_at_kinds.ps) (r s : (res_t mark_at_kinds.r κs).Denot)
     (e f : AtExit (ended_of 1 mark_at_kinds.ps mark_at_kinds.r) κs) → mark_at.Post κs a r e → mark_at.Post κs a s f → r ≡ s

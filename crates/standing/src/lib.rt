@@ -2,9 +2,8 @@
 // that reading gives it in proofs/.
 #![tactic(auto)]
 
-ghost use Rattle.std.specs.Prelude.{◌≡◌, ◌+◌, ◌*◌, ◌/◌, ◌%◌, ◌<◌, ◌≤◌, get_or, length, replicate};
-ghost use Rattle.meaning.specs.Marks.{place_of, find_mark};
-ghost use Rattle.standing.specs.Bytes.{byte_at, mark_at, read_number, number_at, arity_in, fields_in, params_in, modes_in, body_in, result_in};
+ghost use Rattle.std.specs.Prelude.{◌≡◌, ◌+◌, ◌*◌, ◌/◌, ◌%◌, ◌<◌, ◌≤◌, get_or, replicate};
+ghost use Rattle.standing.specs.Bytes.{byte_at, read_number, number_at, arity_in, fields_in, params_in, modes_in, body_in, result_in};
 
 use meaning::{Mark, find_mark};
 
@@ -15,14 +14,6 @@ pub fn byte_at(file: &[u8], at: usize) -> usize
     usize::from(file.get(at).copied().unwrap_or(0))
 }
 
-// The mark at a place where the file has both its bytes.
-pub fn mark_within(file: &[u8], at: usize) -> Mark
-    requires { at + 2 ≤ length file.now }
-    ensures { place_of result ≡ find_mark (mark_at file.now at) }
-{
-    find_mark(u16::from_be_bytes([file[at], file[at + 1]]))
-}
-
 // The mark at a place; none where the file ends within it.
 #[tactic(auto, using(crate::proofs::Entries::early, crate::proofs::Entries::marked))]
 pub fn mark_at(file: &[u8], at: usize) -> Option<Mark>
@@ -31,7 +22,7 @@ pub fn mark_at(file: &[u8], at: usize) -> Option<Mark>
     if file.len() < 2 || file.len() - 2 < at {
         return None;
     }
-    Some(mark_within(file, at))
+    Some(find_mark(u16::from_be_bytes([file[at], file[at + 1]])))
 }
 
 // The table of a file's declarations: a word for each constructor, then one for each function, then the place of each body. A word holds a count,

@@ -4,7 +4,8 @@
 ghost use Rattle.std.specs.Prelude.{◌≡◌, IfOk, IfSome, List, OnOk, ℕ, length, take};
 ghost use Rattle.std.specs.Io.{ReadsAtMost};
 ghost use Rattle.std.specs.Io.KnownBytes.{Appends, Consumes};
-ghost use Rattle.streams.specs.Answering.{Lays, LaysWithin, SameWhenCut};
+ghost use Rattle.lines.specs.Writing.{Line};
+ghost use Rattle.streams.specs.Answering.{SameWhenCut};
 
 use lines::ROOM;
 use std::io;
@@ -31,32 +32,34 @@ pub fn read_full<R: Read>(input: &mut R, buf: &mut [u8]) -> io::Result<usize>
     Ok(filled)
 }
 
-// Writes the line that a function lays for an input, at the front of a room of its own.
-pub fn write_line<W: Write, F: Fn(&[u8], &mut [u8; ROOM]) -> usize>(
-    output: &mut W,
-    input: &[u8],
-    line: F,
-) -> io::Result<()>
-    requires callable { F.IsAlwaysCallable line }
-    requires within { LaysWithin F.Fn line }
-    ensures { (text : List ℕ → List ℕ) → Lays F.Fn line text → OnOk result (Appends (W.contents output.old) (W.contents output.new) (text input.now)) }
+// What a program answers an input with: a line, laid at the front of a room.
+pub trait Program {
+    // The line of an input.
+    ghost line: { Self → List ℕ → List ℕ };
+
+    // Lays the line of an input at the front of a room, and answers how many bytes it has.
+    fn lay(&self, input: &[u8], room: &mut [u8; ROOM]) -> usize
+        ensures { Line (line self.now input.now) room.old room.new result };
+}
+
+// Writes the line of an input.
+pub fn write_line<W: Write, P: Program>(output: &mut W, input: &[u8], program: &P) -> io::Result<()>
+    ensures { OnOk result (Appends (W.contents output.old) (W.contents output.new) (P.line program.now input.now)) }
 {
     let mut room = [0; ROOM];
-    let count = line(input, &mut room);
+    let count = program.lay(input, &mut room);
     output.write_all(&room[..count])
 }
 
 // Reads an input to its end, or until the buffer is full, and writes its line.
-pub fn answer<R: Read, W: Write, F: Fn(&[u8], &mut [u8; ROOM]) -> usize>(
+pub fn answer<R: Read, W: Write, P: Program>(
     input: &mut R,
     output: &mut W,
-    line: F,
+    program: &P,
 ) -> io::Result<()>
-    requires callable { F.IsAlwaysCallable line }
-    requires within { LaysWithin F.Fn line }
-    ensures { (text : List ℕ → List ℕ) → Lays F.Fn line text → SameWhenCut text → OnOk result (IfSome (R.remaining input.old) (λ bytes. Appends (W.contents output.old) (W.contents output.new) (text bytes))) }
+    ensures { SameWhenCut (P.line program.now) → OnOk result (IfSome (R.remaining input.old) (λ bytes. Appends (W.contents output.old) (W.contents output.new) (P.line program.now bytes))) }
 {
     let mut bytes = [0; BUFFER];
     let n = read_full(input, &mut bytes)?;
-    write_line(output, &bytes[..n], line)
+    write_line(output, &bytes[..n], program)
 }

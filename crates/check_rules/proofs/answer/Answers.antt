@@ -6,4 +6,4 @@ use Rattle.check_rules.proofs.Long.{one_line}
 use Rattle.check_rules.proofs.answer.Goals as goal
 
 pub returns : goal.returns
-returns g c = c.answer.ensures check_line (record { laid = λ input room left count p. p }) (first_bytes check_line 4096 65536 (omega arith) one_line)
+returns g c = c.answer.ensures (first_bytes check_line 4096 65536 (omega arith) one_line)

@@ -6,4 +6,4 @@ use Rattle.run_rules.proofs.Long.{one_line}
 use Rattle.run_rules.proofs.answer.Goals as goal
 
 pub returns : goal.returns
-returns g c = c.answer.ensures run_line (record { laid = λ input room left count p. p }) (first_bytes run_line 24649 65536 (omega arith) one_line)
+returns g c = c.answer.ensures (first_bytes run_line 24649 65536 (omega arith) one_line)

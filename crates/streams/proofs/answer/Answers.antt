@@ -3,4 +3,4 @@ use Rattle.streams.proofs.Answering.{whole_line}
 use Rattle.streams.proofs.answer.Goals as goal
 
 pub returns : goal.returns
-returns g c text lays same = whole_line text 65536 same _ _ _ _ _ c.in_ok-n.ensures.first (c.write_line.ensures text lays)
+returns g c same = whole_line _ 65536 same _ _ _ _ _ c.in_ok-n.ensures.first c.write_line.ensures

@@ -4,4 +4,4 @@ use Rattle.streams.proofs.Answering.{same_text}
 use Rattle.streams.proofs.write_line.Goals as goal
 
 pub returns : goal.returns
-returns g c text lays = same_text _ _ _ (line_bytes (lays.laid _ _ _ _ c.line-count.ensures)) c.write_all.ensures.bytes
+returns g c = same_text _ _ _ (line_bytes c.lay-count.ensures) c.write_all.ensures.bytes
