@@ -1,7 +1,6 @@
 pub mod Spending
 pub mod Taking
 pub mod Turns
-pub mod Naming
 pub mod Nodes
 pub mod Cycle
 pub mod Branching

@@ -1,5 +1,5 @@
 -- What the ownership check's records take, bind and are followed by, by the bytes. Assumes nothing.
-use Rattle.std.specs.Prelude.{ℕ, zero, suc, ◌+◌, ◌*◌, ◌^◌, Bool, true, false, ◌&&◌, List, get_or, set, eqb, leb, Result, Ok, Err, Option, None, Some}
+use Rattle.std.specs.Prelude.{ℕ, zero, suc, ◌+◌, ◌*◌, ◌^◌, Bool, false, ◌&&◌, List, get_or, set, eqb, leb, Result, Ok, Err, Option, None, Some}
 use Rattle.std.specs.Int.Bits.{bit_or}
 use Rattle.meaning.specs.declared.Kind.{Kind}
 use Rattle.meaning.specs.declared.Kind.TheVariants as kind
@@ -102,39 +102,6 @@ module _ (bytes decl : List ℕ) (at : ℕ) (slots : List Slot) (bound : ℕ) wh
       (pick (eqb m 10) (take_at bytes at slots bound 2 want.Looked)
       (pick (eqb m 13) (pair_of bytes at slots bound)
       (pick (eqb m 14) (take_at bytes at slots bound 2 want.Number) (fine 0))))))))
-
-  -- the same in two parts, as the code has it: what takes a list or closes the path, and (below) what names a slot or two
-  unfoldable pub many_of : (mark result : ℕ) → Taken
-  many_of m result =
-      pick (eqb m 4) (give_of bytes at slots bound result)
-      (pick (eqb m 6) make_of
-      (pick (eqb m 7) call_of
-      (pick (eqb m 8) (tail_of result) (fine 0))))
-
-unfoldable pub takes_many : (mark : ℕ) → Bool
-takes_many m = pick (eqb m 4) true (pick (eqb m 6) true (pick (eqb m 7) true (pick (eqb m 8) true false)))
-
--- where a record names its first slot, and AR its second
-unfoldable pub first_place : (mark at : ℕ) → ℕ
-first_place m at = pick (eqb m 13) (at + 3) (at + 2)
-
-unfoldable pub second_place : (mark at : ℕ) → ℕ
-second_place m at = pick (eqb m 13) (at + 4) (at + 2)
-
-module _ (bytes : List ℕ) where
-  -- the slot that is named at a place, by its kind
-  unfoldable pub named_of : (place : ℕ) → Kind → Want → (bound : ℕ) → Taken
-  named_of p k w bound = pick (leb bound (byte_at bytes p)) (fault 7 p) (take_kind k (byte_at bytes p) p w false 0)
-
-  unfoldable pub two_of : (p q : ℕ) → (first second : Kind) → (bound : ℕ) → Taken
-  two_of p q a b bound = on_fine (named_of p a want.Number bound) (named_of q b want.Number bound)
-
-  unfoldable pub names_of : (mark p q : ℕ) → (first second : Kind) → (bound : ℕ) → Taken
-  names_of m p q a b bound =
-      pick (eqb m 9) (named_of p a want.Owned bound)
-      (pick (eqb m 10) (named_of p a want.Looked bound)
-      (pick (eqb m 13) (two_of p q a b bound)
-      (pick (eqb m 14) (named_of p a want.Number bound) (fine 0))))
 
 module _ (bytes decl : List ℕ) (at : ℕ) where
   -- the kind of slot that it binds

@@ -1,18 +1,19 @@
 // Bodies, read and checked in one pass, which notes their calls too. Behind a fault of the ownership check the rest is still read, since a
 // file that does not read is refused for that, wherever its other faults stand.
 ghost use Rattle.std.specs.Prelude.{◌≡◌, ◌+◌, ◌≤◌, ◌<◌, length, replicate};
-ghost use Rattle.meaning.specs.Marks.{place_of};
+ghost use Rattle.meaning.specs.Marks.{place_of, find_mark};
+ghost use Rattle.standing.specs.Bytes.{mark_at};
 ghost use Rattle.checker.specs.ReadingBytes.{path, known_count};
 ghost use Rattle.checker.specs.Opening.{Bodied};
 ghost use Rattle.checker.specs.Noting.{note_at};
 ghost use Rattle.checker.specs.Paths.{Head, Placed, term, list};
 ghost use Rattle.checker.specs.Bits.{bits_of};
 ghost use Rattle.checker.specs.Slots.{spent_by, digit};
+ghost use Rattle.checker.specs.Ownership.{as_taken};
 ghost use Rattle.checker.specs.Bodies.{Passable, number_in, place_in, fault_after, place_after, NodeTaken, Checked, CheckedAll, CheckedBody, Finished};
 
 use crate::ownership::{
-    Modes, bind_all, bound_kind, branch_slots, head, named_places, repeats, result_sort, seeing,
-    slot_index, take_many, take_named, takes_many,
+    Modes, bind_all, bound_kind, branch_slots, head, repeats, result_sort, seeing, take_record,
 };
 use crate::reading::{
     Header, Path, Then, expect_mark, read_branch, read_end, read_header, read_node,
@@ -20,7 +21,7 @@ use crate::reading::{
 use crate::sets::{lowest, without_lowest};
 use crate::slots::{Sort, fresh_slots, used};
 use meaning::{BYTES, Fault, Mark, Refusal, Slot};
-use standing::{Rules, Table, mark_at};
+use standing::{Rules, Table};
 
 // What is noted in the pass: the calls of a body, as bits, and the first fault of the ownership check.
 #[derive(Clone, Copy, Debug, PartialEq, Eq)]
@@ -68,32 +69,37 @@ fn spend(slots: &mut [Slot; 32], spent: u32)
     }
 }
 
+// What a record takes becomes used; or its fault is noted.
+fn spend_taken(taken: Result<u32, Refusal>, slots: &mut [Slot; 32], notes: &mut Notes)
+    ensures slots { slots.new ≡ spent_by (bits_of 32 (as_taken taken).spent) slots.old }
+    ensures calls { notes.new.calls ≡ notes.old.calls }
+    ensures number { number_in notes.new.fault ≡ fault_after (number_in notes.old.fault) (as_taken taken).number }
+    ensures place { place_in notes.new.fault ≡ place_after (number_in notes.old.fault) (place_in notes.old.fault) (as_taken taken).number (as_taken taken).place }
+{
+    match taken {
+        Ok(spent) => spend(slots, spent),
+        Err(refusal) => notes.fault(Some(refusal)),
+    }
+}
+
 // A node's record is taken: of the slots, those that it takes are spent, and the one that it binds, if there is one, is bound; its call is
 // noted, and its fault. Slots and counts: see the head of ownership.rt.
 fn take_node(
     rules: Rules,
     at: usize,
+    mark: Mark,
     sort: Sort,
     bound: usize,
     after: usize,
     slots: &mut [Slot; 32],
     notes: &mut Notes,
 )
-    requires { (at ≤ 4096) × (at + 1 < length rules.file.now) × (bound ≤ 32) × (after ≤ 32) }
+    requires { (at ≤ 4096) × (place_of mark ≡ find_mark (mark_at rules.file.now at)) × (bound ≤ 32) × (after ≤ 32) }
     ensures { NodeTaken rules.entry.file.now rules.entry.table.now.words at sort bound after slots.old notes.old slots.new notes.new }
 {
-    let mark = mark_at(rules.file, at).unwrap_or(Mark::Other);
-    let taken = if takes_many(mark) {
-        notes.call(rules, at, mark);
-        take_many(rules, at, mark, sort, *slots, bound)
-    } else {
-        let (one, other) = named_places(mark, at);
-        let first = slots[slot_index(rules, one)].kind;
-        let second = slots[slot_index(rules, other)].kind;
-        take_named(rules, at, mark, first, second, bound)
-    };
-    notes.fault(taken.err());
-    spend(slots, taken.unwrap_or(0));
+    notes.call(rules, at, mark);
+    let taken = take_record(rules, at, mark, sort, slots, bound);
+    spend_taken(taken, slots, notes);
     if bound < after {
         slots[bound] = Slot {
             kind: bound_kind(rules, at, mark),
@@ -120,18 +126,24 @@ fn check_term(
     take_node(
         rules,
         at,
+        node.mark,
         sort,
         path.slots,
         node.path.slots,
         &mut inner,
         notes,
     );
+    // Each end is an Ok of its own: a Result that is handed on as it is is copied with its padding, in pieces that the processor waits for.
     match node.then {
         Then::Leaf(next) => Ok(next),
-        Then::One(next) => check_term(rules, next, sort, inner, node.path, notes),
+        Then::One(next) => {
+            let end = check_term(rules, next, sort, inner, node.path, notes)?;
+            Ok(end)
+        }
         Then::Two(next) => {
             let second = check_term(rules, next, sort, inner, node.path, notes)?;
-            check_term(rules, second, sort, inner, node.path, notes)
+            let end = check_term(rules, second, sort, inner, node.path, notes)?;
+            Ok(end)
         }
         Then::Many(next, count, credit) => {
             check_branches(rules, next, count, credit, sort, inner, node.path, notes)

@@ -1,5 +1,5 @@
-// The ownership check: what a record takes, spends and binds, or its fault. The slots of the path go by value, with the count of those bound beside
-// them: document 01 has them as an array in this form, which the checks of terms and branches hand on.
+// The ownership check: what a record takes, spends and binds, or its fault. The slots of the path are document 01's array, with the count of those
+// bound beside it: lent where a record takes of them, and by value where the checks of terms and branches hand them on.
 // Bounds of places and counts stand in each contract: a type for them would be opened at each sum.
 ghost use Rattle.std.specs.Prelude.{◌≡◌, false, ◌+◌, ◌*◌, ◌^◌, ◌%◌, ◌<◌, ◌≤◌, get_or, MatchResult};
 ghost use Rattle.std.specs.Int.Bits.{bit_or};
@@ -7,7 +7,7 @@ ghost use Rattle.meaning.specs.Marks.{place_of};
 ghost use Rattle.standing.specs.Bytes.{byte_at, arity_in, fields_in, params_in, modes_in, result_in};
 ghost use Rattle.checker.specs.Bits.{bits_of};
 ghost use Rattle.checker.specs.Slots.{sort_at, sort_number, digit, mode_of};
-ghost use Rattle.checker.specs.Ownership.{fine, as_taken, unbound_at, repeated, take_kind, take_of, bars_of, list_of, close_of, make_of, call_of, give_of, tail_of, many_of, takes_many, named_of, names_of, first_place, second_place, kind_by, bound_of, credits_of, branch_of};
+ghost use Rattle.checker.specs.Ownership.{fine, as_taken, unbound_at, repeated, take_kind, take_of, bars_of, list_of, close_of, make_of, call_of, give_of, tail_of, pair_of, taken_of, kind_by, bound_of, credits_of, branch_of};
 
 use crate::sets::{has, with};
 use crate::slots::{Mode, Sort, Want, current, left_over};
@@ -62,7 +62,7 @@ pub(crate) fn result_sort(rules: Rules, f: usize) -> Sort
     Sort::from(rules.result(f))
 }
 
-// One slot of a kind, named at a place, on the way through a record. The kind, and not the array: that would be copied for it.
+// One slot of a kind, named at a place, on the way through a record.
 #[tactic(auto, unfolding(crate::specs::Ownership::take_kind, meaning::specs::Choice::pick))]
 fn take_kind(
     kind: Kind,
@@ -97,17 +97,17 @@ fn named(rules: Rules, at: usize, bound: usize) -> Result<usize, Refusal>
     Ok(i)
 }
 
-// The slot that is named at a place. `take_one` is the same where the kind was looked up before; here the bound is tested first.
+// The slot that is named at a place.
 #[tactic(auto, unfolding(crate::specs::Ownership::take_of, meaning::specs::Choice::pick))]
 fn take(
     rules: Rules,
     at: usize,
     want: Want,
-    slots: [Slot; 32],
+    slots: &[Slot; 32],
     bound: usize,
 ) -> Result<u32, Refusal>
     requires { bound ≤ 32 }
-    ensures { as_taken result ≡ take_of slots bound (byte_at rules.entry.file.now at) at want false 0 }
+    ensures { as_taken result ≡ take_of slots.now bound (byte_at rules.entry.file.now at) at want false 0 }
 {
     let i = named(rules, at, bound)?;
     take_kind(slots[i].kind, i, at, want, false, 0)
@@ -127,11 +127,11 @@ fn take_list(
     modes: Modes,
     at: usize,
     mut spent: u32,
-    slots: [Slot; 32],
+    slots: &[Slot; 32],
     bound: usize,
 ) -> Result<u32, Refusal>
     requires { (bound ≤ 32) × (at ≤ 4100) }
-    ensures { as_taken result ≡ list_of rules.entry.file.now slots bound (1 + digit modes.owned) modes.count modes.first at 0 spent }
+    ensures { as_taken result ≡ list_of rules.entry.file.now slots.now bound (1 + digit modes.owned) modes.count modes.first at 0 spent }
 {
     let mut earlier: u32 = 0;
     for j in 0..modes.count {
@@ -146,9 +146,9 @@ fn take_list(
 
 // MK: the credit, then the fields.
 #[tactic(auto, unfolding(crate::specs::Ownership::make_of, crate::specs::Ownership::on_fine, meaning::specs::Choice::pick))]
-fn take_make(rules: Rules, at: usize, slots: [Slot; 32], bound: usize) -> Result<u32, Refusal>
+fn take_make(rules: Rules, at: usize, slots: &[Slot; 32], bound: usize) -> Result<u32, Refusal>
     requires { (bound ≤ 32) × (at ≤ 4096) }
-    ensures { as_taken result ≡ make_of rules.entry.file.now rules.entry.table.now.words at slots bound }
+    ensures { as_taken result ≡ make_of rules.entry.file.now rules.entry.table.now.words at slots.now bound }
 {
     let fields = Modes::of_fields(rules.table, rules.byte(at + 2), true);
     let spent = take(
@@ -163,9 +163,9 @@ fn take_make(rules: Rules, at: usize, slots: [Slot; 32], bound: usize) -> Result
 
 // CL: the arguments.
 #[tactic(auto, unfolding(crate::specs::Ownership::call_of))]
-fn take_call(rules: Rules, at: usize, slots: [Slot; 32], bound: usize) -> Result<u32, Refusal>
+fn take_call(rules: Rules, at: usize, slots: &[Slot; 32], bound: usize) -> Result<u32, Refusal>
     requires { (bound ≤ 32) × (at ≤ 4096) }
-    ensures { as_taken result ≡ call_of rules.entry.file.now rules.entry.table.now.words at slots bound }
+    ensures { as_taken result ≡ call_of rules.entry.file.now rules.entry.table.now.words at slots.now bound }
 {
     let parameters = Modes::of_parameters(rules.table, rules.byte(at + 2));
     take_list(rules, parameters, at + 3, 0, slots, bound)
@@ -173,9 +173,9 @@ fn take_call(rules: Rules, at: usize, slots: [Slot; 32], bound: usize) -> Result
 
 // A leaf's record has spent what it takes: nothing is left over.
 #[tactic(auto, unfolding(crate::specs::Ownership::close_of, crate::specs::Ownership::on_fine, meaning::specs::Choice::pick))]
-fn close(spent: u32, at: usize, slots: [Slot; 32], bound: usize) -> Result<u32, Refusal>
+fn close(spent: u32, at: usize, slots: &[Slot; 32], bound: usize) -> Result<u32, Refusal>
     requires { bound ≤ 32 }
-    ensures { as_taken result ≡ close_of (fine spent) at slots bound }
+    ensures { as_taken result ≡ close_of (fine spent) at slots.now bound }
 {
     if left_over(slots, bound, spent) {
         return Err(Refusal {
@@ -192,11 +192,11 @@ fn take_give(
     rules: Rules,
     at: usize,
     sort: Sort,
-    slots: [Slot; 32],
+    slots: &[Slot; 32],
     bound: usize,
 ) -> Result<u32, Refusal>
     requires { (bound ≤ 32) × (at ≤ 4096) }
-    ensures { as_taken result ≡ give_of rules.entry.file.now at slots bound (sort_number sort) }
+    ensures { as_taken result ≡ give_of rules.entry.file.now at slots.now bound (sort_number sort) }
 {
     let spent = take(rules, at + 2, sort.mode().want(), slots, bound)?;
     close(spent, at, slots, bound)
@@ -208,11 +208,11 @@ fn take_tail(
     rules: Rules,
     at: usize,
     sort: Sort,
-    slots: [Slot; 32],
+    slots: &[Slot; 32],
     bound: usize,
 ) -> Result<u32, Refusal>
     requires { (bound ≤ 32) × (at ≤ 4096) }
-    ensures { as_taken result ≡ tail_of rules.entry.file.now rules.entry.table.now.words at slots bound (sort_number sort) }
+    ensures { as_taken result ≡ tail_of rules.entry.file.now rules.entry.table.now.words at slots.now bound (sort_number sort) }
 {
     if result_sort(rules, rules.byte(at + 2)) != sort {
         return Err(Refusal {
@@ -224,94 +224,40 @@ fn take_tail(
     close(spent, at, slots, bound)
 }
 
-// What the record of GV, MK, CL or TL takes: a list, or all that is left.
-#[tactic(auto, unfolding(crate::specs::Ownership::many_of, meaning::specs::Choice::pick))]
-pub(crate) fn take_many(
+// AR: the two numbers.
+#[tactic(auto, unfolding(crate::specs::Ownership::pair_of, crate::specs::Ownership::on_fine, meaning::specs::Choice::pick))]
+fn take_pair(rules: Rules, at: usize, slots: &[Slot; 32], bound: usize) -> Result<u32, Refusal>
+    requires { (bound ≤ 32) × (at ≤ 4096) }
+    ensures { as_taken result ≡ pair_of rules.entry.file.now at slots.now bound }
+{
+    take(rules, at + 3, Want::Number, slots, bound)?;
+    take(rules, at + 4, Want::Number, slots, bound)
+}
+
+// What the record of a node takes: its slots, and where the path ends, that nothing is left over.
+#[tactic(auto, unfolding(crate::specs::Ownership::taken_of, meaning::specs::Choice::pick))]
+pub(crate) fn take_record(
     rules: Rules,
     at: usize,
     mark: Mark,
     sort: Sort,
-    slots: [Slot; 32],
+    slots: &[Slot; 32],
     bound: usize,
 ) -> Result<u32, Refusal>
     requires { (bound ≤ 32) × (at ≤ 4096) }
-    ensures { as_taken result ≡ many_of rules.entry.file.now rules.entry.table.now.words at slots bound (place_of mark) (sort_number sort) }
+    ensures { as_taken result ≡ taken_of rules.entry.file.now rules.entry.table.now.words at slots.now bound (place_of mark) (sort_number sort) }
 {
     match mark {
         Mark::GV => take_give(rules, at, sort, slots, bound),
         Mark::MK => take_make(rules, at, slots, bound),
         Mark::CL => take_call(rules, at, slots, bound),
         Mark::TL => take_tail(rules, at, sort, slots, bound),
+        Mark::OP => take(rules, at + 2, Want::Owned, slots, bound),
+        Mark::LK => take(rules, at + 2, Want::Looked, slots, bound),
+        Mark::AR => take_pair(rules, at, slots, bound),
+        Mark::IF => take(rules, at + 2, Want::Number, slots, bound),
         _ => Ok(0),
     }
-}
-
-// Does take_many say what the record takes?
-#[tactic(auto, unfolding(crate::specs::Ownership::takes_many, meaning::specs::Choice::pick))]
-pub(crate) fn takes_many(mark: Mark) -> bool
-    ensures { result ≡ takes_many (place_of mark) }
-{
-    matches!(mark, Mark::GV | Mark::MK | Mark::CL | Mark::TL)
-}
-
-// The slot that is named at a place, by its kind.
-#[tactic(auto, unfolding(crate::specs::Ownership::named_of, meaning::specs::Choice::pick))]
-fn take_one(
-    rules: Rules,
-    place: usize,
-    kind: Kind,
-    want: Want,
-    bound: usize,
-) -> Result<u32, Refusal>
-    requires { bound ≤ 32 }
-    ensures { as_taken result ≡ named_of rules.entry.file.now place kind want bound }
-{
-    let i = named(rules, place, bound)?;
-    take_kind(kind, i, place, want, false, 0)
-}
-
-// What the record of OP, LK, AR or IF takes, by the kinds of the slots that it names; no other takes so.
-#[tactic(auto, unfolding(crate::specs::Ownership::names_of, crate::specs::Ownership::first_place, crate::specs::Ownership::second_place, crate::specs::Ownership::two_of, crate::specs::Ownership::on_fine, meaning::specs::Choice::pick))]
-pub(crate) fn take_named(
-    rules: Rules,
-    at: usize,
-    mark: Mark,
-    first: Kind,
-    second: Kind,
-    bound: usize,
-) -> Result<u32, Refusal>
-    requires { (bound ≤ 32) × (at ≤ 4096) }
-    ensures { as_taken result ≡ names_of rules.entry.file.now (place_of mark) (first_place (place_of mark) at) (second_place (place_of mark) at) first second bound }
-{
-    match mark {
-        Mark::OP => take_one(rules, at + 2, first, Want::Owned, bound),
-        Mark::LK => take_one(rules, at + 2, first, Want::Looked, bound),
-        Mark::AR => {
-            take_one(rules, at + 3, first, Want::Number, bound)?;
-            take_one(rules, at + 4, second, Want::Number, bound)
-        }
-        Mark::IF => take_one(rules, at + 2, first, Want::Number, bound),
-        _ => Ok(0),
-    }
-}
-
-// Where a record names its first slot, and AR its second; of another record the second is the first again.
-#[tactic(auto, unfolding(crate::specs::Ownership::first_place, crate::specs::Ownership::second_place, meaning::specs::Choice::pick))]
-pub(crate) fn named_places(mark: Mark, at: usize) -> (usize, usize)
-    requires { at ≤ 4096 }
-    ensures { (result.0 ≡ first_place (place_of mark) at) × (result.1 ≡ second_place (place_of mark) at) }
-{
-    match mark {
-        Mark::AR => (at + 3, at + 4),
-        _ => (at + 2, at + 2),
-    }
-}
-
-// The slot that is named at a place, as an index of the array.
-pub(crate) fn slot_index(rules: Rules, at: usize) -> usize
-    ensures { (result ≡ byte_at rules.entry.file.now at % 32) × (result < 32) }
-{
-    rules.byte(at) % 32
 }
 
 // The kind of slot that a node binds, if it binds one.

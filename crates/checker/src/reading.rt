@@ -1,7 +1,7 @@
 // Reading: answers 1 to 6, over the bytes. No tree is built; what the file declares goes into one table of 128 words.
 ghost use Rattle.std.specs.Prelude.{◌≡◌, [], ◌+◌, ◌<◌, ◌≤◌, length, ◌↔◌, IsTrue, IfOk, Err};
-ghost use Rattle.meaning.specs.Marks.{place_of};
-ghost use Rattle.standing.specs.Bytes.{number_at};
+ghost use Rattle.meaning.specs.Marks.{place_of, find_mark};
+ghost use Rattle.standing.specs.Bytes.{mark_at, number_at};
 ghost use Rattle.checker.specs.Read.{refusal, as_read, as_mark};
 ghost use Rattle.checker.specs.Node.{as_then, as_node};
 ghost use Rattle.checker.specs.Slots.{digit};
@@ -35,9 +35,10 @@ pub(crate) enum Then {
     Many(usize, usize, bool),
 }
 
-// A node that was read: what follows it, and the path with it.
+// A node that was read: its mark, what follows it, and the path with it.
 #[derive(Clone, Copy, Debug, PartialEq, Eq)]
 pub(crate) struct Node {
+    pub mark: Mark,
     pub then: Then,
     pub path: Path,
 }
@@ -218,13 +219,15 @@ fn follows(file: &[u8], at: usize, mark: Mark, next: usize) -> Then
 #[tactic(auto, unfolding(crate::specs::ReadingBytes::limited, crate::specs::ReadingBytes::binds_of, meaning::specs::Choice::pick, meaning::specs::Marks::row_at))]
 fn limits(file: &[u8], at: usize, mark: Mark, path: Path, next: usize) -> Result<Node, Refusal>
     requires { (at + 2 ≤ length file.now) × (path.slots ≤ 32) × (path.nodes ≤ 64) }
-    ensures { as_node path result ≡ limited file.now at (place_of mark) path next }
+    ensures limited { as_node path result ≡ limited file.now at (place_of mark) path next }
+    ensures mark { IfOk result (λ node. node.mark ≡ mark) }
 {
     let slots = path.slots + binds(mark.place());
     if NODES <= path.nodes || SLOTS < slots {
         return refuse(Fault::LimitPassed, at);
     }
     Ok(Node {
+        mark,
         then: follows(file, at, mark, next),
         path: Path {
             slots,
@@ -237,7 +240,8 @@ fn limits(file: &[u8], at: usize, mark: Mark, path: Path, next: usize) -> Result
 #[tactic(auto, unfolding(crate::specs::ReadingBytes::node_at, crate::specs::ReadingBytes::node_of, crate::specs::ReadingBytes::after_fields, crate::specs::ReadingBytes::mark_read, meaning::specs::Choice::pick))]
 pub(crate) fn read_node(rules: Rules, at: usize, path: Path) -> Result<Node, Refusal>
     requires { (path.slots ≤ 32) × (path.nodes ≤ 64) }
-    ensures { as_node path result ≡ node_at rules.entry.file.now rules.entry.table.now.words at path }
+    ensures node { as_node path result ≡ node_at rules.entry.file.now rules.entry.table.now.words at path }
+    ensures mark { IfOk result (λ node. place_of node.mark ≡ find_mark (mark_at rules.entry.file.now at)) }
 {
     let mark = read_mark(rules.file, at)?;
     let next = fields(rules, at, mark)?;

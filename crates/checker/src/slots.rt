@@ -169,9 +169,9 @@ fn is_left(kind: Kind) -> bool
 }
 
 // Is an owned slot or a credit left among the bound ones, those of the set spent? Slots and count: see the head of ownership.rt.
-pub(crate) fn left_over(slots: [Slot; 32], bound: usize, spent: u32) -> bool
+pub(crate) fn left_over(slots: &[Slot; 32], bound: usize, spent: u32) -> bool
     requires { bound ≤ 32 }
-    ensures { result ≡ leftover (slots_of bound (spent_by (bits_of 32 spent) slots)) }
+    ensures { result ≡ leftover (slots_of bound (spent_by (bits_of 32 spent) slots.now)) }
 {
     for i in 0..bound {
         let slot = slots[i];

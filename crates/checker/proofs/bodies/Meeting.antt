@@ -16,7 +16,7 @@ use Rattle.checker.specs.Node.{Node}
 use Rattle.checker.specs.Node as then
 use Rattle.checker.specs.Read.{Read, Next, Fault}
 use Rattle.checker.specs.ReadingBytes.{binds_of, known_arity, known_count, room, atom_field, make_fields, call_fields, open_fields, sum_fields, fields_at, follows_at, path, node, limited, after_fields, node_of, node_at, more_of, fitting, branch_fields_by, branch_by, branch_at}
-use Rattle.checker.specs.Ownership.{first_place, second_place, named_by, past_of, then_of, credits_of}
+use Rattle.checker.specs.Ownership.{named_by, past_of, then_of, credits_of}
 use Rattle.checker.proofs.reading.Steps.{next_is, fault_next, from_next, from_fields}
 
 -- a read that goes on took the way that its tests say
@@ -112,23 +112,9 @@ module _ (f d : List ℕ) (at : ℕ) where
   unfolding follows_at then_of
   follows_past m k e = rw e
 
-  places : (m n : ℕ) → at + 3 ≤ n → (m ≡ 13 → at + 5 ≤ n) → (first_place m at < n) × (second_place m at < n)
-  unfolding first_place second_place pick
-  places m n h g = go (eqb m 13) refl
-    where
-      go : (b : Bool) → eqb m 13 ≡ b → (first_place m at < n) × (second_place m at < n)
-      go true e = let l = g (eqb-true m 13 e) in let a : at + 3 < n = omega arith in let b : at + 4 < n = omega arith in (rw e a, rw e b)
-      go false e = let a : at + 2 < n = omega arith in (rw e a, rw e a)
-
-  sum_past : (m : ℕ) → m ≡ 13 → past_of f d at m ≡ at + 5
-  unfolding past_of named_by row_at pick
-  sum_past m e = rw e (omega arith)
-
 -- a node that reads
 pub record NodeRead (f d : List ℕ) (at : ℕ) (p : Path) (n : Node) : Type 0 where
   pub inside : at + 3 ≤ length f
-  pub first : first_place (find_mark (mark_at f at)) at < length f
-  pub second : second_place (find_mark (mark_at f at)) at < length f
   pub slots : n.path.slots ≡ p.slots + (row_at (find_mark (mark_at f at))).binds
   pub fits : n.path.slots ≤ 32
   pub follows : n.then ≡ then_of f d at (find_mark (mark_at f at))
@@ -149,11 +135,8 @@ node_read {f} {d} {at} {p} {n} e h k = short (ltb (length f) (at + 2)) refl
         let is : n ≡ node (follows_at f at m next) (path (p.slots + (row_at m).binds) (p.nodes + 1)) = e ∙ rw (a, w, eb, ec) in
         let l = from_next w (from_fields f d at m h) in
         let z = fields_past f d at m next w in
-        let q = places f d at m (length f) (omega (arith, l.0, l.1)) (λ y. omega (arith, l.1, z, sum_past f d at m y)) in
         record {
           inside = omega (arith, l.0, l.1);
-          first = q.0;
-          second = q.1;
           slots = ap (λ y. y.path.slots) is;
           fits = rw is (ltb-false 32 (p.slots + (row_at m).binds) ec);
           follows = ap (λ y. y.then) is ∙ follows_past f d at m next z;

@@ -5,7 +5,6 @@ use mathlib.Core.Bool.{Bool, false, true}
 use mathlib.Core.List.{List}
 use mathlib.Core.Path.{◌≡◌, refl, sym, ap, ◌∙◌, subst}
 use lib.ListN.{length, get_or}
-use lib.Dec.{eqb}
 use lib.Bits.{bit_or}
 use native.Mathlib.Omega.{arith}
 use Rattle.meaning.specs.declared.Slot.{Slot}
@@ -19,7 +18,7 @@ use Rattle.checker.specs.Node as then
 use Rattle.checker.specs.Read.{Read, Next, Fault}
 use Rattle.checker.specs.Bits.{bits_of}
 use Rattle.checker.specs.Slots.{kept_of}
-use Rattle.checker.specs.Ownership.{Taken, takes_many, taken_of, kind_by, then_of, credits_of, branch_of, repeat_of}
+use Rattle.checker.specs.Ownership.{Taken, taken_of, kind_by, then_of, credits_of, branch_of, repeat_of}
 use Rattle.checker.specs.Noting.{note_at}
 use Rattle.checker.specs.OwnershipReady.{Judged, Noted, JudgedAll, NotedAll, Made}
 use Rattle.checker.specs.ReadingBytes.{path, node_at, branch_at}
@@ -66,19 +65,6 @@ module _ {f d : List ℕ} {at : ℕ} {p : Path} {n : Node} (g : NodeMet f d at p
     reads = steps.fault_reads f d at p g.passable.inside n g.node k s e;
     told = λ m o. fault_next o;
   }
-
-neither : (a b c d : Bool) (x y w : ℕ) → pick a true (pick b true (pick c true (pick d true false))) ≡ false → pick c x (pick d y w) ≡ w
-unfolding pick
-neither true b c d x y w e = let z : ◌≡◌ {A = ℕ} 0 1 = cc in absurd (omega arith)
-neither false true c d x y w e = let z : ◌≡◌ {A = ℕ} 0 1 = cc in absurd (omega arith)
-neither false false true d x y w e = let z : ◌≡◌ {A = ℕ} 0 1 = cc in absurd (omega arith)
-neither false false false true x y w e = let z : ◌≡◌ {A = ℕ} 0 1 = cc in absurd (omega arith)
-neither false false false false x y w e = refl
-
--- a node that takes no list and closes no path is no call
-pub none_noted : (f : List ℕ) (at m w : ℕ) → takes_many m ≡ false → note_at f at m w ≡ w
-unfolding takes_many note_at
-none_noted f at m w e = neither (eqb m 4) (eqb m 6) (eqb m 7) (eqb m 8) _ _ w e
 
 -- ---- a node that was taken, its call noted and its fault: one law for each way to go on
 pub record NodeMade (f d : List ℕ) (at result : ℕ) (slots : List Slot) (p : Path) (n : Node) (inner : List Slot) (w x q v y z : ℕ) : Type 0 where

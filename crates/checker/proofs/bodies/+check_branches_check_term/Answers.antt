@@ -18,29 +18,29 @@ use Rattle.checker.proofs.bodies.+check_branches_check_term.Goals as goal
 pub check_term-returns-in_err-node : goal.check_term-returns-in_err-node
 check_term-returns-in_err-node t c =
     let q : c.from_residual.result ≡ Err c.in_err-node.field-0.0 = search rules in
-    rw q (fault_passed (record { passable = c.requires.0; node = c.in_err-node.ensures }) refl)
+    rw q (fault_passed (record { passable = c.requires.0; node = c.in_err-node.ensures.node }) refl)
 
 pub check_term-take_node-requires : goal.check_term-take_node-requires
 check_term-take_node-requires t c =
-    let l = met_low (record { passable = c.requires.0; node = c.in_ok-node.ensures }) in
-    let w = node_read c.in_ok-node.ensures c.requires.0.inside (no_fault c.in_ok-node.node.then) in
-    (l.0, omega (arith, w.inside), l.1, w.fits)
+    let l = met_low (record { passable = c.requires.0; node = c.in_ok-node.ensures.node }) in
+    let w = node_read c.in_ok-node.ensures.node c.requires.0.inside (no_fault c.in_ok-node.node.then) in
+    (l.0, c.in_ok-node.ensures.mark, l.1, w.fits)
 
 pub check_term-check_term-requires : goal.check_term-check_term-requires
 check_term-check_term-requires t c =
-    let m = node_made (search rules) c.requires.0 c.in_ok-node.ensures (no_fault c.in_ok-node.node.then) c.take_node.ensures in
+    let m = node_made (search rules) c.requires.0 c.in_ok-node.ensures.node (no_fault c.in_ok-node.node.then) c.take_node.ensures in
     let e = ap as_then c.in-One.is in
     let x = one_passable m e in (omega (arith, c.requires.0, x.0, x.1.inside), (x.1, one_placed m e c.requires.1))
 
 pub check_term-check_term-requires-in-Two : goal.check_term-check_term-requires-in-Two
 check_term-check_term-requires-in-Two t c =
-    let m = node_made (search rules) c.requires.0 c.in_ok-node.ensures (no_fault c.in_ok-node.node.then) c.take_node.ensures in
+    let m = node_made (search rules) c.requires.0 c.in_ok-node.ensures.node (no_fault c.in_ok-node.node.then) c.take_node.ensures in
     let e = ap as_then c.in-Two.is in
     let x = two_passable m e in (omega (arith, c.requires.0, x.0, x.1.inside), (x.1, first_placed (two_placed m e c.requires.1)))
 
 pub check_term-check_term-requires-in-Two-2 : goal.check_term-check_term-requires-in-Two-2
 check_term-check_term-requires-in-Two-2 t c =
-    let m = node_made (search rules) c.requires.0 c.in_ok-node.ensures (no_fault c.in_ok-node.node.then) c.take_node.ensures in
+    let m = node_made (search rules) c.requires.0 c.in_ok-node.ensures.node (no_fault c.in_ok-node.node.then) c.take_node.ensures in
     let e = ap as_then c.in-Two.is in
     let x = two_passable m e in
     let r = ap as_read c.in_ok-second-in-Two.was in
@@ -49,29 +49,41 @@ check_term-check_term-requires-in-Two-2 t c =
 
 pub check_term-returns-in_err-second-in-Two : goal.check_term-returns-in_err-second-in-Two
 check_term-returns-in_err-second-in-Two t c =
-    let m = node_made (search rules) c.requires.0 c.in_ok-node.ensures (no_fault c.in_ok-node.node.then) c.take_node.ensures in
+    let m = node_made (search rules) c.requires.0 c.in_ok-node.ensures.node (no_fault c.in_ok-node.node.then) c.take_node.ensures in
     let q : c.from_residual-in_err-second-in-Two.result ≡ Err c.in_err-second-in-Two.field-0.0 = search rules in
     rw q (two_passed m (ap as_then c.in-Two.is) (two_one c.check_term-in-Two.ensures (ap as_read c.in_err-second-in-Two.was)))
 
 pub check_term-check_branches-requires : goal.check_term-check_branches-requires
 check_term-check_branches-requires t c =
-    let m = node_made (search rules) c.requires.0 c.in_ok-node.ensures (no_fault c.in_ok-node.node.then) c.take_node.ensures in
+    let m = node_made (search rules) c.requires.0 c.in_ok-node.ensures.node (no_fault c.in_ok-node.node.then) c.take_node.ensures in
     let e = ap as_then c.in-Many.is in
     let x = many_passable m e in (omega (arith, c.requires.0, x.0, x.1.inside), (x.1, many_placed m e c.requires.1))
 
 pub check_term-returns-in-Leaf : goal.check_term-returns-in-Leaf
-check_term-returns-in-Leaf t c = leaf_passed (node_made (search rules) c.requires.0 c.in_ok-node.ensures (no_fault c.in_ok-node.node.then) c.take_node.ensures) (ap as_then c.in-Leaf.is)
+check_term-returns-in-Leaf t c = leaf_passed (node_made (search rules) c.requires.0 c.in_ok-node.ensures.node (no_fault c.in_ok-node.node.then) c.take_node.ensures) (ap as_then c.in-Leaf.is)
 
-pub check_term-returns-in-One : goal.check_term-returns-in-One
-check_term-returns-in-One t c = one_passed (node_made (search rules) c.requires.0 c.in_ok-node.ensures (no_fault c.in_ok-node.node.then) c.take_node.ensures) (ap as_then c.in-One.is) c.check_term.ensures
+pub check_term-returns-in_ok-end-in-One : goal.check_term-returns-in_ok-end-in-One
+check_term-returns-in_ok-end-in-One t c = one_passed (node_made (search rules) c.requires.0 c.in_ok-node.ensures.node (no_fault c.in_ok-node.node.then) c.take_node.ensures) (ap as_then c.in-One.is) (rw c.in_ok-end-in-One.was at c.check_term.ensures)
 
-pub check_term-returns-in_ok-second-in-Two : goal.check_term-returns-in_ok-second-in-Two
-check_term-returns-in_ok-second-in-Two t c =
-    two_passed (node_made (search rules) c.requires.0 c.in_ok-node.ensures (no_fault c.in_ok-node.node.then) c.take_node.ensures) (ap as_then c.in-Two.is)
-    (two_both c.check_term-in-Two.ensures (ap as_read c.in_ok-second-in-Two.was) c.check_term-in-Two-2.ensures)
+pub check_term-returns-in_err-end-in-One : goal.check_term-returns-in_err-end-in-One
+check_term-returns-in_err-end-in-One t c =
+    let q : c.from_residual-in_err-end-in-One.result ≡ Err c.in_err-end-in-One.field-0.0 = search rules in
+    rw q (one_passed (node_made (search rules) c.requires.0 c.in_ok-node.ensures.node (no_fault c.in_ok-node.node.then) c.take_node.ensures) (ap as_then c.in-One.is) (rw c.in_err-end-in-One.was at c.check_term.ensures))
+
+pub check_term-returns-in_ok-end-in-Two : goal.check_term-returns-in_ok-end-in-Two
+check_term-returns-in_ok-end-in-Two t c =
+    two_passed (node_made (search rules) c.requires.0 c.in_ok-node.ensures.node (no_fault c.in_ok-node.node.then) c.take_node.ensures) (ap as_then c.in-Two.is)
+    (two_both c.check_term-in-Two.ensures (ap as_read c.in_ok-second-in-Two.was) (rw c.in_ok-end-in-Two.was at c.check_term-in-Two-2.ensures))
+
+pub check_term-returns-in_err-end-in-Two : goal.check_term-returns-in_err-end-in-Two
+check_term-returns-in_err-end-in-Two t c =
+    let q : c.from_residual-in_err-end-in-Two.result ≡ Err c.in_err-end-in-Two.field-0.0 = search rules in
+    rw q
+    (two_passed (node_made (search rules) c.requires.0 c.in_ok-node.ensures.node (no_fault c.in_ok-node.node.then) c.take_node.ensures) (ap as_then c.in-Two.is)
+    (two_both c.check_term-in-Two.ensures (ap as_read c.in_ok-second-in-Two.was) (rw c.in_err-end-in-Two.was at c.check_term-in-Two-2.ensures)))
 
 pub check_term-returns-in-Many : goal.check_term-returns-in-Many
-check_term-returns-in-Many t c = many_passed (node_made (search rules) c.requires.0 c.in_ok-node.ensures (no_fault c.in_ok-node.node.then) c.take_node.ensures) (ap as_then c.in-Many.is) c.check_branches.ensures
+check_term-returns-in-Many t c = many_passed (node_made (search rules) c.requires.0 c.in_ok-node.ensures.node (no_fault c.in_ok-node.node.then) c.take_node.ensures) (ap as_then c.in-Many.is) c.check_branches.ensures
 
 pub check_branches-branches-init : goal.check_branches-branches-init
 check_branches-branches-init t c = none_walked (omega arith) c.requires.0.inside c.requires.1
