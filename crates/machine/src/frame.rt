@@ -34,7 +34,7 @@ impl Frame {
         requires { (length args.now ≤ 32) × (32 ≤ length work.old) }
         ensures { (result.at ≡ at) × (result.depth ≡ 0) × (result.bound ≡ length args.now) × (work.new ≡ laid work.old 0 args.now) }
     {
-        work[..args.len()].copy_from_slice(args);
+        load(args, work, 0, Work::SLOTS, args.len());
         Frame {
             bound: args.len(),
             ..Frame::empty(at)

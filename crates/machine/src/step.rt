@@ -35,6 +35,30 @@ pub struct Pause {
     pub left: u32,
 }
 
+// The arity of a declared constructor. Not by Table's method, which tests its index: a step has no test of bounds. So too the next two.
+fn arity(table: &Table, con: usize) -> usize
+    requires { con < 64 }
+    ensures { (result ≡ arity_in table.now.words con) × (result < 256) }
+{
+    table.words[con] as usize % Table::PLACE
+}
+
+// The count of parameters of a declared function.
+fn parameter_count(table: &Table, f: usize) -> usize
+    requires { f < 32 }
+    ensures { (result ≡ params_in table.now.words f) × (result < 256) }
+{
+    table.words[Table::FUNCTIONS + f] as usize % Table::PLACE
+}
+
+// The place of a declared function's body.
+fn body(table: &Table, f: usize) -> usize
+    requires { f < 32 }
+    ensures { (result ≡ body_in table.now.words f) × (result < 4294967296) }
+{
+    table.words[Table::BODIES + f] as usize
+}
+
 // NU: bind a constant.
 #[tactic(auto, unfolding(crate::specs::Layout::nu_of))]
 fn number(file: &[u8], work: &mut [u32], s: State) -> State
@@ -103,11 +127,11 @@ fn tail(rules: Rules, work: &mut [u32], s: State) -> State
     let at = s.frame.at;
     let base = s.frame.depth * Frame::SLOTS;
     let g = byte(rules.file, at + 2);
-    let n = rules.table.parameters(g);
+    let n = parameter_count(rules.table, g);
     pass_on(rules.file, work, base, at + 3, n);
     State {
         frame: Frame {
-            at: rules.table.body(g),
+            at: body(rules.table, g),
             bound: n,
             ..s.frame
         },
@@ -127,7 +151,7 @@ fn call(rules: Rules, work: &mut [u32], s: State) -> Option<State>
     }
     let base = depth * Frame::SLOTS;
     let g = byte(rules.file, at + 2);
-    let n = rules.table.parameters(g);
+    let n = parameter_count(rules.table, g);
     let q = Work::SAVED + depth * 2;
     work[q] = (at + 3 + n) as u32;
     work[q + 1] = s.frame.bound as u32;
@@ -139,7 +163,7 @@ fn call(rules: Rules, work: &mut [u32], s: State) -> Option<State>
     }
     Some(State {
         frame: Frame {
-            at: rules.table.body(g),
+            at: body(rules.table, g),
             depth: depth + 1,
             bound: n,
         },
@@ -156,7 +180,7 @@ fn make(rules: Rules, store: &mut [u32], work: &mut [u32], s: State) -> State
     let at = s.frame.at;
     let base = s.frame.depth * Frame::SLOTS;
     let con = byte(rules.file, at + 2);
-    let k = rules.table.arity(con);
+    let k = arity(rules.table, con);
     let w = slot(rules.file, work, base, at + 3);
     let p = (w - Store::FIRST) as usize * Store::CELL;
     store[p] = con as u32;
@@ -304,7 +328,7 @@ fn opened(
     if w < Store::FIRST {
         return go_to(s, b);
     }
-    let k = table.arity(con);
+    let k = arity(table, con);
     let to = s.frame.depth * Frame::SLOTS + s.frame.bound;
     let p = (w - Store::FIRST) as usize * Store::CELL;
     load(store, work, p + 1, to, k);

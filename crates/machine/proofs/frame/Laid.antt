@@ -1,5 +1,5 @@
 -- Words laid from a place on: where they are, the loops that lay them one by one, and one or two laid without a loop. Assumes nothing.
-use Rattle.std.proofs.Common.{◌≡◌, ℕ, zero, suc, ◌+◌, ◌-◌, ◌<◌, ◌≤◌, Bool, true, false, eqb, ◌⊎◌, List, [], ◌∷◌, ◌++◌, length, get_or, take, drop, set, replicate, sym, refl, ap, ◌∙◌, subst, inl, inr, arith, append_assoc, length-set, drop-drop, get_or-set_other, get_or-set_same, drop-set-lt, eqb-true}
+use Rattle.std.proofs.Common.{◌≡◌, ℕ, zero, suc, ◌+◌, ◌-◌, ◌<◌, ◌≤◌, Bool, true, false, eqb, ◌⊎◌, List, [], ◌∷◌, ◌++◌, length, get_or, take, drop, set, replicate, sym, refl, ap, ◌∙◌, subst, inl, inr, arith, append_assoc, length-set, drop-drop, drop-cons, drop_of_length-le, get_or-set_other, get_or-set_same, drop-set-lt, eqb-true}
 use borrow.Author.Tests.{eqb-false}
 use borrow.Rule.Slice.PartMut.{put_mid}
 use Rattle.std.proofs.Math.Seq.{take-append_seam}
@@ -166,3 +166,15 @@ gathered_laid bytes work base at n k {vs} {ws} h b e v w =
 pub laid_one : (l bytes work : List ℕ) (to base at n : ℕ) → n ≡ 1 → set l to (slot_in bytes work base at) ≡ laid l to (gathered bytes work base at n)
 unfolding laid gathered
 laid_one l bytes work to base at n e = rw e
+
+-- all words of a list
+words_from : (l : List ℕ) (p k : ℕ) → p + k ≡ length l → words l p k ≡ drop p l
+unfolding words
+words_from l p zero e = sym (drop_of_length-le l (let h : length l ≤ p = omega arith in h))
+words_from l p (suc k) e =
+    let h : p < length l = omega arith in
+    let z : p + 1 ≡ suc p = omega arith in
+    (λ i. get_or l p 0 ∷ words l (z i) k) ∙ ap (λ r. get_or l p 0 ∷ r) (words_from l (suc p) k (omega arith)) ∙ sym (drop-cons l p 0 h)
+
+pub words_all : (l : List ℕ) → words l 0 (length l) ≡ l
+words_all l = words_from l 0 (length l) (omega arith)

@@ -24,7 +24,7 @@ pub returns : goal.returns
 unfolding cl_of pick
 returns c =
     let s = c.args.s in
-    let n = c.parameters-n.result in
+    let n = c.parameter_count-n.result in
     let w₀ : List ℕ = saved c.args.work.now s.frame.depth s.frame.at n s.frame.bound in
     -- both ways hand over the same
     let given : c.if-n-eq1.work ≡ handed c.args.rules.file.now c.args.work.now s.frame.depth s.frame.at n s.frame.bound =
@@ -32,4 +32,4 @@ returns c =
       | then-n-eq1 w ↦ w.work-is ∙ ap (set w₀ (s.frame.depth * 32 + 32)) w.slot-v.ensures ∙ laid_one w₀ c.args.rules.file.now w₀ (s.frame.depth * 32 + 32) (s.frame.depth * 32) (s.frame.at + 3) n w.if-n-eq1.true
       | else-n-eq1 w ↦ w.work-is ∙ w.hand_over.ensures
     ] in
-    rw (lt-leb _ _ c.if-depth.false, c.body.ensures.0, c.max.ensures, given, c.parameters-n.ensures.0, c.byte-g.ensures.0, gathered_above c.args.rules.file.now c.args.work.now (c.args.s.frame.depth * 32) (c.args.s.frame.at + 3) (params_in c.args.rules.table.now.words (byte_at c.args.rules.file.now (c.args.s.frame.at + 2))) (1024 + c.args.s.frame.depth * 2) (c.args.s.frame.at + 3 + (params_in c.args.rules.table.now.words (byte_at c.args.rules.file.now (c.args.s.frame.at + 2)))) (1024 + c.args.s.frame.depth * 2 + 1) c.args.s.frame.bound (omega arith) (omega arith) c.requires.7)
+    rw (lt-leb _ _ c.if-depth.false, c.body.ensures.0, c.max.ensures, given, c.parameter_count-n.ensures.0, c.byte-g.ensures.0, gathered_above c.args.rules.file.now c.args.work.now (c.args.s.frame.depth * 32) (c.args.s.frame.at + 3) (params_in c.args.rules.table.now.words (byte_at c.args.rules.file.now (c.args.s.frame.at + 2))) (1024 + c.args.s.frame.depth * 2) (c.args.s.frame.at + 3 + (params_in c.args.rules.table.now.words (byte_at c.args.rules.file.now (c.args.s.frame.at + 2)))) (1024 + c.args.s.frame.depth * 2 + 1) c.args.s.frame.bound (omega arith) (omega arith) c.requires.7)
