@@ -1,47 +1,32 @@
--- The runs that chunks of three words give. Assumes nothing.
-use Prim.Native.Nat.{ℕ, ◌<◌}
-use mathlib.Core.Path.{◌≡◌, refl, ap, ◌∙◌, subst}
-use mathlib.Core.List.{List, [], ◌∷◌, ◌++◌}
+-- The runs that arrays of three words give, and a loop over them. Assumes nothing.
+use Prim.Native.Nat.{ℕ, zero, suc, ◌+◌, ◌*◌, ◌<◌, ◌≤◌}
+use mathlib.Core.Path.{◌≡◌, refl, sym, ap}
+use mathlib.Core.List.{List, [], ◌∷◌, map}
 use native.Mathlib.Omega.{arith}
-use denote.Ref.{Bor}
-use lib.ListN.{length, get_or}
-use Rattle.std.specs.Slice.Iter.{chunks_exact_steps, chunks_exact_rest, chunks_exact_size}
-use Rattle.std.specs.Fn.{Called}
-use denote.Param.Members.{Mut}
-use Rattle.std.specs.Iterator.Adapters.{map_source, map_callee}
-use Rattle.std.proofs.lemmas.Iterator.{YieldsList, YieldsList-from_map, maps}
-use Rattle.std.proofs.lemmas.List.{map-id}
-use Rattle.std.proofs.lemmas.Iterator.Splits.{YieldsList-from_shown_while}
+use lib.ListN.{length, get_or, take}
+use Rattle.std.specs.List.{fold}
+use Rattle.std.specs.Simd.{first_chunks}
+use Rattle.std.proofs.lemmas.List.Folds.{fold-map}
+use Rattle.std.proofs.lemmas.List.Sums.{fold_more}
 use Rattle.month.specs.declared.Run.{Run}
 use Rattle.month.specs.Month.{run, runs_of}
 
--- the run of a chunk
+-- the run of an array's words
 abbrev pub run_in : List ℕ → Run
 run_in w = run (get_or w 0 0) (get_or w 1 0) (get_or w 2 0)
 
-short : (l : List ℕ) → length l < 3 → length (runs_of l) ≡ 0
+-- the runs of the first k arrays of three words, where no more than two words are left
+pub array_runs : (xs : List ℕ) (k : ℕ) → 3 * k ≤ length xs → length xs < 3 * k + 3 → map run_in (first_chunks 3 k xs) ≡ runs_of xs
 unfolding runs_of
-short [] h = refl
-short (n ∷ []) h = refl
-short (n ∷ (s ∷ [])) h = refl
-short (n ∷ (s ∷ (f ∷ rest))) h = absurd (omega arith)
+array_runs [] zero a b = refl
+array_runs (n ∷ []) zero a b = refl
+array_runs (n ∷ (s ∷ [])) zero a b = refl
+array_runs (n ∷ (s ∷ (f ∷ rest))) zero a b = absurd (omega arith)
+array_runs [] (suc k) a b = absurd (omega arith)
+array_runs (n ∷ []) (suc k) a b = absurd (omega arith)
+array_runs (n ∷ (s ∷ [])) (suc k) a b = absurd (omega arith)
+array_runs (n ∷ (s ∷ (f ∷ rest))) (suc k) a b = ap (λ l. run n s f ∷ l) (array_runs rest k (omega arith) (omega arith))
 
-one_more : (w rest : List ℕ) → length w ≡ 3 → runs_of (w ++ rest) ≡ run_in w ∷ runs_of rest
-unfolding runs_of
-one_more [] rest h = absurd (omega arith)
-one_more (n ∷ []) rest h = absurd (omega arith)
-one_more (n ∷ (s ∷ [])) rest h = absurd (omega arith)
-one_more (n ∷ (s ∷ (f ∷ []))) rest h = refl
-one_more (n ∷ (s ∷ (f ∷ (x ∷ more)))) rest h = absurd (omega arith)
-
-chunk_runs : {s : _} (xs : List ℕ) → chunks_exact_rest s ≡ xs → chunks_exact_size s ≡ 3 → YieldsList chunks_exact_steps (λ x. run_in x.now) s (runs_of xs)
-chunk_runs {s} xs e h = subst (λ l. YieldsList chunks_exact_steps (λ x. run_in x.now) s (runs_of l)) e
-    (YieldsList-from_shown_while chunks_exact_steps (λ x. run_in x.now) (λ t. runs_of (chunks_exact_rest t)) (λ t. chunks_exact_size t ≡ 3)
-    (λ a b p q. short (chunks_exact_rest a) (omega (arith, q.1.0, p)))
-    (λ a x b p q. (q.0 ∙ p, ap runs_of q.1.0 ∙ one_more x.now (chunks_exact_rest b) (q.1.1 ∙ p)))
-    s h)
-
--- the runs that `map` gives of the chunks
-pub mapped_runs : {F : Type 0} {s : _} (g : Mut F (Bor (List ℕ) × Unit {0}) Run) {f : F} (xs : List ℕ) → chunks_exact_rest (map_source s) ≡ xs → chunks_exact_size (map_source s) ≡ 3 → map_callee s ≡ f
-    → ((x : Bor (List ℕ)) (r : Run) (q : F) → Called g f (x, tt) r q → (q ≡ f) × (r ≡ run_in x.now)) → YieldsList (maps chunks_exact_steps g) (λ r. r) s (runs_of xs)
-mapped_runs {s = s} g xs e h k l = subst (λ ys. YieldsList (maps chunks_exact_steps g) (λ r. r) s ys) (map-id (runs_of xs)) (YieldsList-from_map g (λ y. y) (chunk_runs xs e h) k l)
+-- a loop's next turn, where its state is a fold over the runs so far
+pub turn : {B : Type 0} (step : B → Run → B) (a : B) (xs : List (List ℕ)) {i : ℕ} {had next : B} {r : Run} → i < length xs → r ≡ run_in (get_or xs i []) → had ≡ fold step a (map run_in (take i xs)) → next ≡ step had r → next ≡ fold step a (map run_in (take (i + 1) xs))
+turn step a xs {i = i} h e before k = rw (k, before, e, fold-map step run_in a (take (i + 1) xs), fold-map step run_in a (take i xs)) (sym (fold_more (λ b w. step b (run_in w)) a xs i [] h))

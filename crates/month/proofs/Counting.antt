@@ -1,30 +1,28 @@
 -- The counts, the greatest, the least and the table of answer numbers in the library's words. Assumes nothing.
-use Prim.Native.Nat.{ℕ, zero, suc, ◌+◌, max, min}
+use Prim.Native.Nat.{ℕ, zero, suc, ◌+◌, ◌≤◌, max, min}
 use mathlib.Core.Path.{◌≡◌, refl, sym, ap, subst, ◌∙◌}
 use mathlib.Core.Bool.{Bool, true, false, cond, ◌&&◌, ◌||◌}
 use mathlib.Core.List.{List, [], ◌∷◌, map}
+use mir.Val.{bool_byte}
+use denote.Ref.{Bor}
 use native.Mathlib.Omega.{arith}
 use borrow.Author.Tests.{eq-eqb, ne_eqb}
 use Rattle.std.proofs.lemmas.Bool.{eqb-true, false≢true}
 use lib.ListN.{length, drop, drop_of_length-le}
 use lib.Seq.{drop-cons}
 use denote.Param.Members.{Mut}
-use Rattle.std.specs.Iterator.{ActsAs}
+use Rattle.std.specs.Fn.{Called}
+use Rattle.std.specs.Iterator.{ActsAs, ActsAsAt}
 use Rattle.std.specs.Array.{IsMapOf, MapsFrom}
-use Rattle.std.proofs.Common.{Option}
-use Rattle.std.specs.Option.{option_map}
-use Rattle.std.proofs.lemmas.Iterator.Adapters.{option_map_id}
 use lib.Dec.{leb, eqb}
-use Rattle.std.specs.List.{list_all, list_any, count_by, filter, reduce, fold}
-use Rattle.std.specs.Option.{unwrap_or}
+use Rattle.std.specs.List.{list_all, list_any, count_by, filter, fold}
+use Rattle.std.specs.Ordering.{ord_max, nat_cmp}
 use Rattle.std.proofs.lemmas.List.Sums.{length-filter}
 use Rattle.std.proofs.lemmas.List.{length-map}
 use Rattle.std.proofs.lemmas.List.Recursion.{is_count_by, same_from_clauses}
 use Rattle.meaning.specs.Choice.{pick}
-use Rattle.meaning.specs.Derivation.{here}
 use Rattle.month.specs.declared.Run.{Run}
-use Rattle.month.specs.Month.{numbers, among, known, count, those, ended, steps_of, highest, greatest, lowest, least, within}
-use Rattle.month.proofs.Tenths.{greatest_above}
+use Rattle.month.specs.Month.{numbers, among, known, count, those, ended, steps_of, highest, lowest, within}
 
 pick_cond : {A : Type 0} (b : Bool) (x y : A) → pick b x y ≡ cond b x y
 unfolding pick
@@ -83,32 +81,59 @@ pub within_counts : (bound : ℕ) (rs : List Run) → within bound (steps_of rs)
 unfolding within steps_of ended those
 within_counts bound = is_count_by (λ l. within bound (steps_of l)) (λ r. eqb r.number 0 && leb r.steps bound) refl (λ r rest. within_step bound r rest (eqb r.number 0))
 
-highest_fold : (from : ℕ) (xs : List ℕ) → fold max from xs ≡ highest from xs
-unfolding highest
-highest_fold from [] = refl
-highest_fold from (x ∷ rest) = highest_fold (max from x) rest
+-- a step of the loop for the greatest of a figure, where a run that did not end with 0 counts as 0, and of that for the least steps, where it counts as the top
+abbrev pub raised : (Run → ℕ) → ℕ → Run → ℕ
+raised f had r = max had (cond (eqb r.number 0) (f r) 0)
 
-lowest_fold : (from : ℕ) (xs : List ℕ) → fold min from xs ≡ lowest from xs
-unfolding lowest
-lowest_fold from [] = refl
-lowest_fold from (x ∷ rest) = lowest_fold (min from x) rest
+abbrev pub lowered : (top : ℕ) → ℕ → Run → ℕ
+lowered top had r = min had (cond (eqb r.number 0) r.steps top)
 
--- what `max().unwrap_or(0)` and `min().unwrap_or(0)` give
-pub greatest_is : (o : Option ℕ) (xs : List ℕ) → option_map (λ x. x) o ≡ reduce max xs → unwrap_or o 0 ≡ greatest xs
-unfolding greatest highest
-greatest_is o xs e = ap (λ p. unwrap_or p 0) (sym (option_map_id o) ∙ e) ∙ go xs
+pub raised_at : (f : Run → ℕ) (had : ℕ) (r : Run) {value : ℕ} → r.number ≡ 0 → value ≡ f r → max had value ≡ raised f had r
+raised_at f had r e k = rw (k, eq-eqb r.number 0 e)
+
+pub raised_past : (f : Run → ℕ) (had : ℕ) (r : Run) {value : ℕ} → (r.number ≡ 0 → ⊥) → value ≡ 0 → max had value ≡ raised f had r
+raised_past f had r e k = rw (k, ne_eqb r.number 0 e)
+
+pub lowered_at : (top had : ℕ) (r : Run) {value : ℕ} → r.number ≡ 0 → value ≡ r.steps → min had value ≡ lowered top had r
+lowered_at top had r e k = rw (k, eq-eqb r.number 0 e)
+
+pub lowered_past : (top had : ℕ) (r : Run) {value : ℕ} → (r.number ≡ 0 → ⊥) → value ≡ top → min had value ≡ lowered top had r
+lowered_past top had r e k = rw (k, ne_eqb r.number 0 e)
+
+-- the whole loop
+pub highest_raised : (f : Run → ℕ) (from : ℕ) (rs : List Run) → fold (raised f) from rs ≡ highest from (map f (ended rs))
+unfolding highest ended those pick
+highest_raised f from [] = refl
+highest_raised f from (r ∷ rest) = go (λ had. highest_raised f had rest) (eqb r.number 0)
   where
-    go : (ys : List ℕ) → unwrap_or (reduce max ys) 0 ≡ greatest ys
-    go [] = refl
-    go (y ∷ rest) = let e : y ≡ max 0 y = omega arith in highest_fold y rest ∙ ap (λ m. highest m rest) e
+    go : ((had : ℕ) → fold (raised f) had rest ≡ highest had (map f (ended rest))) → (b : Bool) → fold (raised f) (max from (cond b (f r) 0)) rest ≡ highest from (map f (pick b (r ∷ ended rest) (ended rest)))
+    go later true = later (max from (f r))
+    go later false = let e : max from 0 ≡ from = omega arith in ap (λ m. fold (raised f) m rest) e ∙ later from
 
-pub least_is : (o : Option ℕ) (xs : List ℕ) → option_map (λ x. x) o ≡ reduce min xs → unwrap_or o 0 ≡ least xs
-unfolding least lowest greatest highest
-least_is o xs e = ap (λ p. unwrap_or p 0) (sym (option_map_id o) ∙ e) ∙ go xs
+pub lowest_lowered : (top from : ℕ) → from ≤ top → (rs : List Run) → fold (lowered top) from rs ≡ lowest from (steps_of rs)
+unfolding lowest steps_of ended those pick
+lowest_lowered top from h [] = refl
+lowest_lowered top from h (r ∷ rest) = go (λ had k. lowest_lowered top had k rest) (eqb r.number 0)
   where
-    go : (ys : List ℕ) → unwrap_or (reduce min ys) 0 ≡ least ys
-    go [] = refl
-    go (y ∷ rest) = let e : y ≡ min (greatest (y ∷ rest)) y = omega (arith, greatest_above {x = y} {xs = y ∷ rest} here) in lowest_fold y rest ∙ ap (λ m. lowest m rest) e
+    go : ((had : ℕ) → had ≤ top → fold (lowered top) had rest ≡ lowest had (steps_of rest)) → (b : Bool) → fold (lowered top) (min from (cond b r.steps top)) rest ≡ lowest from (map (λ x. x.steps) (pick b (r ∷ ended rest) (ended rest)))
+    go later true = later (min from r.steps) (omega arith)
+    go later false = let e : min from top ≡ from = omega arith in ap (λ m. fold (lowered top) m rest) e ∙ later from h
+
+-- what `max` gives
+pub greater : (a b : ℕ) → ord_max nat_cmp a b ≡ max a b
+greater a b = grind arith
+
+-- a closure that a loop has left as it was, called once more, at a reference and at a value
+pub called_again : {F A R : Type 0} (g : Mut F (Bor A × Unit {0}) R) {f s q : F} (h : A → R) {x : Bor A} {r : R} → ActsAsAt g f h → s ≡ f → Called g s (x, tt) r q → (q ≡ f) × (r ≡ h x.now)
+called_again g {s = s} {q = q} h {x = x} {r = r} acts e called = acts x.now r q (record { shown = x; shows = refl; called = subst (λ p. Called g p (x, tt) r q) e called })
+
+pub value_again : {F A R : Type 0} (g : Mut F (A × Unit {0}) R) {f s q : F} (h : A → R) {x : A} {r : R} → ActsAs g f h → s ≡ f → Called g s (x, tt) r q → (q ≡ f) × (r ≡ h x)
+value_again g {s = s} {q = q} h {x = x} {r = r} acts e called = acts x r q (subst (λ p. Called g p (x, tt) r q) e called)
+
+-- what `u32::from` gives of a test
+pub byte_cond : (b : Bool) → bool_byte b ≡ cond b 1 0
+byte_cond true = refl
+byte_cond false = refl
 
 -- what an array's `map` gives, where each call gives what h gives and leaves the closure as it was
 module _ {F A B : Type 0} (g : Mut F (A × Unit {0}) B) (f : F) (h : A → B) (acts : ActsAs g f h) (xs : List A) (ys : List B) where

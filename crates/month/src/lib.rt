@@ -121,27 +121,34 @@ impl<'a> Runs<'a> {
         Ok(Runs { words })
     }
 
+    // The words of each run, as arrays: of a `for` over these the compiler makes vector code, and of a chain of adapters it doesn't.
+    fn triples(&self) -> &'a [[u32; RUN_WORDS]]
+        ensures value { map (λ w. run (get_or w 0 0) (get_or w 1 0) (get_or w 2 0)) result.now ≡ runs_of self.now.words.now }
+        ensures few { length result.now ≤ 4096 }
+    {
+        self.words.as_chunks::<RUN_WORDS>().0
+    }
+
     // Is every run's answer number in the table?
     fn all_known(&self) -> bool
         ensures { result ≡ known (runs_of self.now.words.now) }
     {
-        self.words
-            .chunks_exact(RUN_WORDS)
-            .map(Run::from_words)
-            .all(|run| in_table(run.number))
+        self.triples()
+            .iter()
+            .all(|words| in_table(Run::from_words(words).number))
     }
 
     // How many runs pass a test.
-    fn count<F: FnMut(&Run) -> bool>(&self, test: F) -> u32
+    fn count<F: FnMut(&Run) -> bool>(&self, mut test: F) -> u32
         requires { (f : F) (x : _) → F.pre f x }
         ensures value { (t : Run → Bool) → ActsAsAt F.FnMut test t → result ≡ count_by t (runs_of self.now.words.now) }
         ensures upper_bound { result ≤ 4096 }
     {
-        self.words
-            .chunks_exact(RUN_WORDS)
-            .map(Run::from_words)
-            .filter(test)
-            .count() as u32
+        let mut counted = 0;
+        for words in self.triples() {
+            counted += u32::from(test(&Run::from_words(words)));
+        }
+        counted
     }
 
     // How many runs have the answer number.
@@ -158,31 +165,31 @@ impl<'a> Runs<'a> {
         NUMBERS.map(|number| self.count_of(number))
     }
 
-    // The greatest of a figure over the runs that ended with 0 (a number: it is a word of the month); with no such run, 0.
-    fn greatest<F: FnMut(Run) -> u32>(&self, figure: F) -> u32
+    // The greatest of a figure over the runs that ended with 0 (a number: it is a word of the month); with no such run, 0. The others count as 0, so
+    // that no run is branched on.
+    fn greatest<F: FnMut(Run) -> u32>(&self, mut figure: F) -> u32
         requires { (f : F) (x : _) → F.pre f x }
         ensures { (f : Run → ℕ) → ActsAs F.FnMut figure f → result ≡ greatest (map f (ended (runs_of self.now.words.now))) }
     {
-        self.words
-            .chunks_exact(RUN_WORDS)
-            .map(Run::from_words)
-            .filter(|run| run.number == 0)
-            .map(figure)
-            .max()
-            .unwrap_or(0)
+        let mut greatest = 0;
+        for words in self.triples() {
+            let run = Run::from_words(words);
+            greatest = greatest.max(if run.number == 0 { figure(run) } else { 0 });
+        }
+        greatest
     }
 
-    // The least steps of the runs that ended with 0; with no such run, 0. One function for both would take `max` or `min` as a closure, and be no shorter.
+    // The least steps of the runs that ended with 0; with no such run, 0. The others count as the greatest, so that no run is branched on.
     fn least_steps(&self) -> u32
         ensures { result ≡ least (steps_of (runs_of self.now.words.now)) }
     {
-        self.words
-            .chunks_exact(RUN_WORDS)
-            .map(Run::from_words)
-            .filter(|run| run.number == 0)
-            .map(|run| run.steps)
-            .min()
-            .unwrap_or(0)
+        let greatest = self.greatest(|run| run.steps);
+        let mut least = greatest;
+        for words in self.triples() {
+            let run = Run::from_words(words);
+            least = least.min(if run.number == 0 { run.steps } else { greatest });
+        }
+        least
     }
 
     // The smallest step count that at least nine tenths of the runs that ended with 0 don't exceed, looked for by halves below the greatest.
@@ -195,7 +202,8 @@ impl<'a> Runs<'a> {
         let mut high = top;
         while low < high {
             let middle = low + (high - low) / 2;
-            let within = self.count(|run| run.number == 0 && run.steps <= middle);
+            // `&`: with `&&` the loop branches on each run.
+            let within = self.count(|run| (run.number == 0) & (run.steps <= middle));
             if wanted <= 10 * within {
                 high = middle;
             } else {
