@@ -12,33 +12,46 @@ const MOST: usize = 12291;
 // The words of an input, with their count before them.
 const WORDS: usize = 1 + MOST;
 
-// What an answer number means, as `number_at` gives it.
+// Room for a refusal's line, of at most 46 bytes.
+const LINE: usize = 64;
+
+// What an answer number means, as `number_at` gives it, and the end of its line.
 fn meaning(number: u32) -> &'static str {
     match number {
-        0 => "run done",
-        1 => "file over 4,096 bytes",
-        2 => "file ends early",
-        3 => "a mark not allowed here",
-        4 => "field out of range",
-        5 => "a limit passed",
-        6 => "bytes after the end",
-        7 => "slot not bound",
-        8 => "wrong kind of slot",
-        9 => "slot used",
-        10 => "credit of another size",
-        11 => "something left over",
-        12 => "constructor twice in one branch list",
-        20 => "store or work area of a wrong size",
-        21 => "wrong number of arguments",
-        22 => "an argument or a place is malformed",
-        23 => "an owned cell is named twice",
-        24 => "a cell reaches itself",
-        31 => "no branch fits",
-        32 => "budget spent",
-        33 => "no frame left",
-        34 => "a sum or a difference outside 0..65,535",
-        _ => "",
+        0 => "run done\n",
+        1 => "file over 4,096 bytes\n",
+        2 => "file ends early\n",
+        3 => "a mark not allowed here\n",
+        4 => "field out of range\n",
+        5 => "a limit passed\n",
+        6 => "bytes after the end\n",
+        7 => "slot not bound\n",
+        8 => "wrong kind of slot\n",
+        9 => "slot used\n",
+        10 => "credit of another size\n",
+        11 => "something left over\n",
+        12 => "constructor twice in one branch list\n",
+        20 => "store or work area of a wrong size\n",
+        21 => "wrong number of arguments\n",
+        22 => "an argument or a place is malformed\n",
+        23 => "an owned cell is named twice\n",
+        24 => "a cell reaches itself\n",
+        31 => "no branch fits\n",
+        32 => "budget spent\n",
+        33 => "no frame left\n",
+        34 => "a sum or a difference outside 0..65,535\n",
+        _ => "\n",
     }
+}
+
+// Prints a count of at most four digits in four columns. Each blank is a write of its own, as each part of a line is.
+fn say_right<W: Write>(output: &mut W, count: u32) -> io::Result<()> {
+    for bound in [1000, 100, 10] {
+        if count < bound {
+            write!(output, " ")?;
+        }
+    }
+    write!(output, "{count}")
 }
 
 // Prints a line for each answer number that occurs.
@@ -47,7 +60,8 @@ fn say_counts<W: Write>(output: &mut W, counts: &[u32]) -> io::Result<()> {
         if count > 0 {
             let number = month::number_at(i);
             let meaning = meaning(number);
-            writeln!(output, "{count:>4}  answer {number}: {meaning}")?;
+            say_right(output, count)?;
+            write!(output, "  answer {number}: {meaning}")?;
         }
     }
     Ok(())
@@ -70,11 +84,20 @@ fn say_summary<W: Write>(output: &mut W, summary: Summary) -> io::Result<()> {
     writeln!(output, "  greatest frames: {frames}")
 }
 
+// Prints a refusal's line, in one write.
+fn say_refusal<W: Write>(output: &mut W, refusal: Refusal) -> io::Result<()> {
+    let mut line = [0; LINE];
+    let mut rest = &mut line[..];
+    writeln!(rest, "refused {}: {refusal}", refusal.number())?;
+    let left = rest.len();
+    output.write_all(&line[..LINE.saturating_sub(left)])
+}
+
 // Prints the month in numbers, or its refusal.
 fn say_month<W: Write>(output: &mut W, month: Result<Summary, Refusal>) -> io::Result<()> {
     match month {
         Ok(summary) => say_summary(output, summary),
-        Err(refusal) => writeln!(output, "refused {}: {refusal}", refusal.number()),
+        Err(refusal) => say_refusal(output, refusal),
     }
 }
 
