@@ -133,7 +133,7 @@ fn check_term(
         &mut inner,
         notes,
     );
-    // Each end is an Ok of its own: a Result that is handed on as it is is copied with its padding, in pieces that the processor waits for.
+    // The end of a term that follows is an Ok of its own: a Result that is handed on is copied with its padding, in pieces that the processor waits for.
     match node.then {
         Then::Leaf(next) => Ok(next),
         Then::One(next) => {
